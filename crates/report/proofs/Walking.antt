@@ -24,11 +24,11 @@ use Rattle.sheet.specs.declared.status.Status.the-variants.{Open}
 use Rattle.sheet.specs.Of.{bitsOf}
 use Rattle.sheet.specs.Statuses.{packed, statuses}
 use Rattle.sheet.proofs.Words.{packing}
-use Rattle.report.specs.declared.left.Outcome.{Outcome}
-use Rattle.report.specs.declared.left.Outcome.the-variants as outcome
-use Rattle.report.specs.declared.left.Step.{Step}
-use Rattle.report.specs.declared.left.Step.the-variants as step
-use Rattle.report.specs.declared.left.Walk.{Walk}
+use Rattle.report.specs.declared.walk.Outcome.{Outcome}
+use Rattle.report.specs.declared.walk.Outcome.the-variants as outcome
+use Rattle.report.specs.declared.walk.Step.{Step}
+use Rattle.report.specs.declared.walk.Step.the-variants as step
+use Rattle.report.specs.declared.walk.Walk.{Walk}
 use Rattle.report.specs.Lines.{settles, settled, statusesAfter, marksAfter, leftLine, leftLines, ruleLines}
 use Rattle.report.specs.Texts.{Named, textOf, Says}
 use Rattle.report.specs.Walks.{Begun, Grown, Took, Spelt, Told}
@@ -101,7 +101,7 @@ module _ (names : List (List ℕ)) (xs : List Expr) (ds : List (List ℕ)) (s : 
             ∙ ap (leftLines names xs []) (sym more);
       }
 
-word-at : (words : List (String Global)) (k : ℕ) (x : String Global) → k < length words → x ≡ getD words k x → string-bytes x ≡ getD (map string-bytes words) k []
+pub word-at : (words : List (String Global)) (k : ℕ) (x : String Global) → k < length words → x ≡ getD words k x → string-bytes x ≡ getD (map string-bytes words) k []
 word-at words k x h e = ap string-bytes e ∙ sym (getD-map string-bytes words k x [] h)
 
 -- the walk at word k of the words, which is x, with the text d

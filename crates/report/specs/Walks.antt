@@ -3,13 +3,17 @@
 --     Took names xs s d t r    where the state was s and the word was d, the answer is r and t stands afterwards
 --     Spelt names w ds         the words ds are the texts of the literals w
 --     Told names xs ds t o     of the words ds the bytes t are printed, and o is how far they were read
+--     refusalOf ds o           what is said to people of the words ds, where not all were read
 use mathlib.Core.Path.{_≡_}
 use mathlib.Core.Bool.{Bool}
 use mathlib.Core.List.{List, [], _∷_, _++_, map, List·Memᴰ}
-use Prim.Native.Nat.{ℕ, _<_}
+use Prim.Native.Nat.{ℕ, _+_, _<_}
+use lib.Chars.{codes}
 use lib.ListN.{length, getD, take, replicate}
 use Rattle.std.specs.Of.String.{string-bytes}
+use Rattle.std.specs.Written.{decimal}
 use Rattle.std.specs.declared.alloc.AllocError.{AllocError}
+use Rattle.std.specs.declared.option.Option.{Option}
 use Rattle.std.specs.declared.option.Option.the-variants.{None, Some}
 use Rattle.std.specs.declared.result.Result.{Result}
 use Rattle.std.specs.declared.result.Result.the-variants.{Ok, Err}
@@ -22,11 +26,11 @@ use Rattle.algebra.specs.Rules.{Judged}
 use Rattle.sheet.specs.declared.status.Status.the-variants.{Open}
 use Rattle.sheet.specs.Of.{bitsOf}
 use Rattle.sheet.specs.Statuses.{packed, statuses}
-use Rattle.report.specs.declared.left.Outcome.{Outcome}
-use Rattle.report.specs.declared.left.Outcome.the-variants as outcome
-use Rattle.report.specs.declared.left.Step.{Step}
-use Rattle.report.specs.declared.left.Step.the-variants as step
-use Rattle.report.specs.declared.left.Walk.{Walk}
+use Rattle.report.specs.declared.walk.Outcome.{Outcome}
+use Rattle.report.specs.declared.walk.Outcome.the-variants as outcome
+use Rattle.report.specs.declared.walk.Step.{Step}
+use Rattle.report.specs.declared.walk.Step.the-variants as step
+use Rattle.report.specs.declared.walk.Walk.{Walk}
 use Rattle.report.specs.Lines.{settled, leftLine, leftLines, ruleLines}
 use Rattle.report.specs.Texts.{Named, textOf, Says}
 
@@ -62,3 +66,10 @@ Told names xs ds t (outcome.Unknown k) =
 Told names xs ds t (outcome.Twice k) =
     (w : List Literal) × (l : Literal) × Spelt names w (take k ds) × (k < length ds) × Says names (getD ds k []) (Some l)
     × List·Memᴰ (eventOf l) (map eventOf w) × (t ≡ leftLines names xs [] w)
+
+abbrev pub refusalOf : List (List ℕ) → Outcome → Option (List ℕ)
+refusalOf ds outcome.Complete = None
+refusalOf ds (outcome.Unknown k) =
+    Some (codes "line " ++ (decimal (k + 1) ++ (codes ": there is no event for '" ++ (getD ds k [] ++ codes "'"))))
+refusalOf ds (outcome.Twice k) =
+    Some (codes "line " ++ (decimal (k + 1) ++ (codes ": the event of '" ++ (getD ds k [] ++ codes "' came before"))))

@@ -1,12 +1,14 @@
 // The bytes that the program prints.
-pub mod left;
 pub mod lines;
 pub mod names;
+pub mod walk;
 
-pub use left::Outcome;
-pub use left::Report;
 pub use lines::left_line;
 pub use lines::rule_line;
 pub use lines::rule_lines;
 pub use lines::settle;
 pub use names::read_literal;
+pub use walk::Outcome;
+pub use walk::Report;
+pub use walk::left;
+pub use walk::refusal;

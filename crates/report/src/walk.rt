@@ -1,10 +1,12 @@
 // What is left of rules, printed literal by literal.
 ghost use mathlib.Core.Path.{_≡_};
-ghost use mathlib.Core.List.{map};
+ghost use mathlib.Core.List.{[], map};
+ghost use lib.ListN.{getD};
 ghost use Rattle.std.specs.Of.String.{string-bytes};
+ghost use Rattle.std.specs.Options.{mapped};
 ghost use Rattle.std.specs.Vec.{made};
 ghost use Rattle.algebra.specs.Of.{rulesOf};
-ghost use Rattle.report.specs.Walks.{Begun, Took, Told};
+ghost use Rattle.report.specs.Walks.{Begun, Took, Told, refusalOf};
 use super::lines::left_line;
 use super::lines::rule_lines;
 use super::lines::settle;
@@ -127,4 +129,38 @@ pub fn left(
     let lines = rule_lines(heap, answers.as_slice())?;
     walk.text.push_str(lines.as_str())?;
     Ok(walk.report(Outcome::Complete))
+}
+
+// What is said to people where not all words were read: the line of the first that was not, counted
+// from 1, and why; absent where all were read.
+pub fn refusal(
+    heap: Global,
+    outcome: Outcome,
+    words: &[String],
+) -> Result<Option<String>, AllocError>
+    ensures { λ r. ⌜ made r (λ m. mapped string-bytes m ≡ refusalOf (map string-bytes (now (words .entry))) outcome) ⌝ }
+{
+    match outcome {
+        Outcome::Complete => Ok(None),
+        Outcome::Unknown(number) => {
+            let line = number as u128 + 1;
+            let word = word_at(words, number);
+            Ok(Some(format!(heap, "line {line}: there is no event for '{word}'")?))
+        }
+        Outcome::Twice(number) => {
+            let line = number as u128 + 1;
+            let word = word_at(words, number);
+            Ok(Some(format!(heap, "line {line}: the event of '{word}' came before")?))
+        }
+    }
+}
+
+// The word of a number; empty past the last.
+fn word_at(words: &[String], number: usize) -> &str
+    ensures { λ r. ⌜ now r ≡ getD (map string-bytes (now (words .entry))) number [] ⌝ }
+{
+    match words.get(number) {
+        Some(word) => word.as_str(),
+        None => "",
+    }
 }

@@ -5,7 +5,7 @@ use Rattle.std.specs.Of.Vec.{vec-items}
 use Rattle.algebra.specs.Of.{rulesOf}
 use Rattle.report.specs.Lines.{ruleLines}
 use Rattle.report.proofs.Walking.{walked-none, walked-next, told-unknown, told-twice, told-complete}
-use Rattle.report.proofs.left.left.Needs as need
+use Rattle.report.proofs.walk.left.Needs as need
 
 pub loop-number-holds : need.loop-number-holds
 loop-number-holds c = walked-none (map now (c .args .names .now)) (rulesOf (c .args .rules .now)) (c .begin-walk .result) (c .begin-walk .ensures)
