@@ -12,7 +12,7 @@ use Rattle.std.specs.declared.option.Option.the-variants.{None, Some}
 use Rattle.std.proofs.shelf.Lists.{joined-more}
 use Rattle.algebra.specs.declared.expr.Expr.{Expr}
 use Rattle.algebra.specs.Expressions.{leaves}
-use Rattle.algebra.specs.Rules.{Counts, NumberedOn}
+use Rattle.algebra.specs.Rules.{Counts, NumberedOn, Next}
 
 head-same : {m n : ℕ} {ms ns : List ℕ} → m ∷ ms ≡ n ∷ ns → m ≡ n
 head-same e = cc
@@ -45,15 +45,15 @@ counts-right a (n ∷ ns) ms h = from-same ms (omega arith) (counts-right (a + 1
 leaves-push : (xs : List Expr) (x : Expr) → joined leaves xs ++ leaves x ≡ joined leaves (xs ++ (x ∷ []))
 leaves-push xs x = joined-more leaves [] xs x
 
-pub numbered-push : (xs : List Expr) (x : Expr) → NumberedOn xs → Counts (length (joined leaves xs)) (leaves x) → NumberedOn (xs ++ (x ∷ []))
+numbered-push : (xs : List Expr) (x : Expr) → NumberedOn xs → Counts (length (joined leaves xs)) (leaves x) → NumberedOn (xs ++ (x ∷ []))
 numbered-push xs x h k =
     subst (Counts 0) (leaves-push xs x) (counts-join 0 (joined leaves xs) (leaves x) h (from-same (leaves x) (omega arith) k))
 
-pub numbered-last : (xs : List Expr) (x : Expr) → NumberedOn (xs ++ (x ∷ [])) → Counts (length (joined leaves xs)) (leaves x)
+numbered-last : (xs : List Expr) (x : Expr) → NumberedOn (xs ++ (x ∷ [])) → Counts (length (joined leaves xs)) (leaves x)
 numbered-last xs x h =
     from-same (leaves x) (omega arith) (counts-right 0 (joined leaves xs) (leaves x) (subst (Counts 0) (sym (leaves-push xs x)) h))
 
-pub length-push-leaves : (xs : List Expr) (x : Expr) → length (joined leaves (xs ++ (x ∷ []))) ≡ length (joined leaves xs) + length (leaves x)
+length-push-leaves : (xs : List Expr) (x : Expr) → length (joined leaves (xs ++ (x ∷ []))) ≡ length (joined leaves xs) + length (leaves x)
 length-push-leaves xs x = ap length (sym (leaves-push xs x)) ∙ length-append (joined leaves xs) (leaves x)
 
 -- what is said of numbers from `first` on: that they count, and what comes next
@@ -74,3 +74,9 @@ both-count first ns ms {next} {all} (Some last) e h n (k, q, few) = (
   omega (arith, q, n, ap length e ∙ length-append ns ms),
   few,
 )
+
+-- what `numbers_on` says of a rule behind others
+pub next-from-said : (xs : List Expr) (x : Expr) (first : ℕ) (r : Option ℕ) → NumberedOn xs → first ≡ length (joined leaves xs) → Said first (leaves x) r → Next xs x r
+next-from-said xs x first None h e f = λ k. f (from-same (leaves x) (sym e) (numbered-last xs x k))
+next-from-said xs x first (Some n) h e (k, is, few) =
+    (numbered-push xs x h (from-same (leaves x) e k), (let l = length-push-leaves xs x in omega arith), few)

@@ -1,9 +1,11 @@
 -- The law of what is left.
 use mathlib.Core.Path.{_≡_, refl, sym, _∙_, ap, subst}
-use mathlib.Core.Bool.{Bool, true}
-use mathlib.Core.List.{List, [], _∷_, _++_, map, append-nil, List·Memᴰ, List·Memᴰ·head, List·Memᴰ·tail}
+use mathlib.Core.Bool.{Bool, true, false}
+use mathlib.Core.List.{List, [], _∷_, _++_, append-nil, List·Memᴰ, List·Memᴰ·head, List·Memᴰ·tail}
 use mathlib.Core.Logic.{_↔_, inl, inr}
-use lib.ListN.{length}
+use Prim.Native.Nat.{ℕ, zero, suc, _<_}
+use native.Mathlib.Omega.{arith}
+use lib.ListN.{length, getD}
 use Rattle.std.specs.Iters.{folded, counting}
 use Rattle.std.specs.Joined.{joined}
 use Rattle.algebra.specs.declared.literal.Literal.{Literal}
@@ -69,11 +71,16 @@ left-of-one x o u v r = left-of-rules (x ∷ []) (subst Once (sym (append-nil (l
 pub numbered-once : (xs : List Expr) → NumberedOn xs → Once (joined leaves xs)
 numbered-once xs n = subst Once (sym n) (once-counting 0 (length (joined leaves xs)))
 
--- what is fulfilled after a trace, rule by rule
-judged-part : (xs : List Expr) (m : Marks) (w : List Literal) → ((x : Expr) → List·Memᴰ x xs → (fulfilled x m ≡ true) ↔ Meets x w) → Judged xs w (map (λ x. fulfilled x m) xs)
-judged-part [] m w f = tt
-judged-part (x ∷ xs) m w f = (f x (List·Memᴰ·head refl), judged-part xs m w (λ y h. f y (List·Memᴰ·tail h)))
+-- answers that say of each rule whether it is fulfilled under m, where that says whether w meets it
+judged-part : (xs : List Expr) (m : Marks) (w : List Literal) (bs : List Bool) → length bs ≡ length xs → ((k : ℕ) → k < length xs → (d : Expr) → getD bs k false ≡ fulfilled (getD xs k d) m) → ((x : Expr) → List·Memᴰ x xs → (fulfilled x m ≡ true) ↔ Meets x w) → Judged xs w bs
+judged-part [] m w [] l f g = tt
+judged-part [] m w (b ∷ bs) l f g = absurd (omega arith)
+judged-part (x ∷ xs) m w [] l f g = absurd (omega arith)
+judged-part (x ∷ xs) m w (b ∷ bs) l f g = (
+  subst (λ a. (a ≡ true) ↔ Meets x w) (sym (f zero (omega arith) x)) (g x (List·Memᴰ·head refl)),
+  judged-part xs m w bs (omega arith) (λ k h d. f (suc k) (omega arith) d) (λ y h. g y (List·Memᴰ·tail h)),
+)
 
-pub judged : (xs : List Expr) (w : List Literal) → NumberedOn xs → IsTrace w → Judged xs w (map (λ x. fulfilled x (folded (appliedAll xs) (freshAll xs) w)) xs)
-judged xs w n r =
-    judged-part xs (folded (appliedAll xs) (freshAll xs) w) w (λ x h. left-of-rules xs (numbered-once xs n) x h [] w r)
+pub judged : (xs : List Expr) (m : Marks) (w : List Literal) (bs : List Bool) → NumberedOn xs → IsTrace w → m ≡ folded (appliedAll xs) (freshAll xs) w → length bs ≡ length xs → ((k : ℕ) → k < length xs → (d : Expr) → getD bs k false ≡ fulfilled (getD xs k d) m) → Judged xs w bs
+judged xs m w bs n r is l f =
+    judged-part xs m w bs l f (λ x h. subst (λ z. (fulfilled x z ≡ true) ↔ Meets x w) (sym is) (left-of-rules xs (numbered-once xs n) x h [] w r))

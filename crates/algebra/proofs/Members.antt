@@ -1,16 +1,17 @@
 -- Membership, and lists in which no number stands twice.
 use mathlib.Core.Path.{_≡_, refl, sym, ap, subst, _∙_}
-use mathlib.Core.Bool.{Bool, true, false, not, cond, _&&_}
+use mathlib.Core.Bool.{Bool, true, false, not, _&&_, false≢true}
 use mathlib.Core.List.{List, [], _∷_, _++_, map, List·Memᴰ, List·Memᴰ·head, List·Memᴰ·tail, List·Memᴰ·cases-cons, List·Memᴰ·not-nil, Memᴰ·append-left, Memᴰ·append-right, List·Memᴰ·append-cases}
-use mathlib.Core.Logic.{_⊎_, inl, inr, ⊎-elim}
+use mathlib.Core.Logic.{_⊎_, _↔_, inl, inr, ⊎-elim}
 use Prim.Native.Nat.{ℕ, zero, suc, _+_, _<_, _≤_}
 use native.Mathlib.Omega.{arith}
 use lib.Dec.{T, eqb}
 use lib.ListN.{length, getD, drop}
 use Rattle.std.specs.Iters.{counting}
+use Rattle.std.specs.Orderings.{When}
 use Rattle.std.specs.shelf.Lawful.{all-pass}
 use Rattle.std.proofs.shelf.Lists.{map-append, drop-more, drop-all}
-use Rattle.std.proofs.shelf.Tests.{cases-bool, cond-both, eqb-true, eq-eqb}
+use Rattle.std.proofs.shelf.Tests.{cases-bool, eqb-true, eq-eqb}
 use Rattle.algebra.specs.declared.literal.Literal.{Literal}
 use Rattle.algebra.specs.Literals.{eventOf, Once, IsTrace}
 
@@ -108,9 +109,9 @@ mem-drop-more f xs i d n h ne k =
 pub mem-drop-all : {X : Type 0} (f : X → ℕ) (xs : List X) (i n : ℕ) → length xs ≤ i → List·Memᴰ n (map f (drop i xs)) → ⊥
 mem-drop-all f xs i n h k = List·Memᴰ·not-nil (subst (λ ys. List·Memᴰ n (map f ys)) (drop-all i xs h) k)
 
--- a trace that took one literal more, or none
-pub trace-push : (w v : List Literal) (l : Literal) (took : Bool) → IsTrace w → Out (eventOf l) (map eventOf w) → v ≡ cond took (w ++ (l ∷ [])) w → IsTrace v
-trace-push w v l took h out e =
-    subst IsTrace (sym e)
-    (cond-both took (w ++ (l ∷ [])) w IsTrace
-    (λ _. subst Once (sym (map-append eventOf w (l ∷ []))) (once-push (map eventOf w) (eventOf l) h out)) (λ _. h))
+-- one literal more is taken where its event does not stand in the trace yet
+pub takes-from-settles : (w : List Literal) (l : Literal) (e : ℕ) (r : Bool) → IsTrace w → e ≡ eventOf l → (r ≡ true) ↔ List·Memᴰ e (map eventOf w) → When (not r) (IsTrace (w ++ (l ∷ [])) × Out (eventOf l) (map eventOf w)) (List·Memᴰ (eventOf l) (map eventOf w))
+takes-from-settles w l e true h is k = subst (λ n. List·Memᴰ n (map eventOf w)) is (k .0 refl)
+takes-from-settles w l e false h is k =
+    let out : Out (eventOf l) (map eventOf w) = λ m. false≢true (k .1 (subst (λ n. List·Memᴰ n (map eventOf w)) (sym is) m)) in
+    (subst Once (sym (map-append eventOf w (l ∷ []))) (once-push (map eventOf w) (eventOf l) h out), out)

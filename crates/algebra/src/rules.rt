@@ -1,18 +1,18 @@
 // Lists of rules that share one pair of mark words.
 ghost use mathlib.Core.Path.{_≡_};
 ghost use mathlib.Core.List.{[]};
-ghost use Prim.Native.Nat.{_≤_};
-ghost use lib.ListN.{length};
+ghost use Prim.Native.Nat.{_<_, _≤_};
+ghost use lib.ListN.{length, getD};
 ghost use Rattle.std.specs.Iters.{folded};
 ghost use Rattle.std.specs.Joined.{joined};
-ghost use Rattle.std.specs.Finite.{nth};
 ghost use Rattle.std.specs.Of.Vec.{vec-items, vec-len, vec-cap};
-ghost use Rattle.std.specs.Options.{mapped};
+ghost use Rattle.std.specs.Options.{Cases};
 ghost use Rattle.std.specs.Vec.{made, refused};
+ghost use Rattle.algebra.specs.declared.expr.Expr.{Expr as Rule};
 ghost use Rattle.algebra.specs.Expressions.{leaves};
 ghost use Rattle.algebra.specs.Left.{freshAll, appliedAll};
 ghost use Rattle.algebra.specs.Laws.{Left-of-one, Left-of-rules};
-ghost use Rattle.algebra.specs.Rules.{NumberedOn, Added, Judged};
+ghost use Rattle.algebra.specs.Rules.{NumberedOn, Next, Added, Judged};
 use super::expr::Expr;
 use super::literal::Literal;
 use super::marks::Marks;
@@ -56,7 +56,7 @@ impl Rules {
         ensures same { λ r. ⌜ refused r (λ e. e ≡ RulesError.Misnumbered rule → now (self .exit) ≡ now (self .entry)) ⌝ }
         ensures full { λ r. ⌜ refused r (λ e. e ≡ RulesError.Memory rule → vec-cap (now (self .entry) .list) ≤ vec-len (now (self .entry) .list)) ⌝ }
     {
-        match rule.numbers_on(self.next) {
+        match self.next_after(&rule) {
             None => Err(RulesError::Misnumbered(rule)),
             Some(next) => match self.list.push(rule) {
                 Ok(()) => {
@@ -68,6 +68,13 @@ impl Rules {
         }
     }
 
+    // The number that the next leaf has once a rule is added; absent if its leaves are not numbered on.
+    fn next_after(&self, rule: &Expr) -> Option<u8>
+        ensures { λ r. ⌜ Next (vec-items (now (self .entry) .list)) (now (rule .entry)) r ⌝ }
+    {
+        rule.numbers_on(self.next)
+    }
+
     // How many rules there are: at most 64, since each has a leaf.
     pub fn len(&self) -> usize
         ensures { λ r. ⌜ r ≡ length (vec-items (now (self .entry) .list)) ⌝ }
@@ -75,16 +82,9 @@ impl Rules {
         self.list.len()
     }
 
-    // How many leaves the rules have: at most 64.
-    pub fn leaf_count(&self) -> u8
-        ensures { λ r. ⌜ r ≡ length (joined leaves (vec-items (now (self .entry) .list))) ⌝ }
-    {
-        self.next
-    }
-
     // The rule of a number, counted from 0; absent past the last.
     pub fn get(&self, number: usize) -> Option<&Expr>
-        ensures { λ r. ⌜ mapped now r ≡ nth (vec-items (now (self .entry) .list)) number ⌝ }
+        ensures { λ r. ⌜ Cases r (length (vec-items (now (self .entry) .list)) ≤ number) (λ x. (number < length (vec-items (now (self .entry) .list))) × ((d : Rule) → now x ≡ getD (vec-items (now (self .entry) .list)) number d)) ⌝ }
     {
         self.list.get(number)
     }

@@ -1,10 +1,11 @@
 // Traces.
 ghost use mathlib.Core.Path.{_≡_};
 ghost use mathlib.Core.Bool.{true};
-ghost use mathlib.Core.List.{[], map, List·Memᴰ};
+ghost use mathlib.Core.List.{[], _∷_, _++_, map, List·Memᴰ};
 ghost use mathlib.Core.Logic.{_↔_};
 ghost use Prim.Native.Nat.{_≤_};
 ghost use Rattle.std.specs.Of.Vec.{vec-items, vec-len, vec-cap};
+ghost use Rattle.std.specs.Orderings.{When};
 ghost use Rattle.std.specs.Vec.{refused};
 ghost use Rattle.algebra.specs.Literals.{eventOf, IsTrace, Taken};
 use super::literal::Literal;
@@ -53,13 +54,20 @@ impl Trace {
         false
     }
 
+    // Whether the trace with one literal more is a trace: the literal's event does not stand in it yet.
+    fn takes(&self, literal: Literal) -> bool
+        ensures { λ r. ⌜ When r (IsTrace (vec-items (now (self .entry) .literals) ++ (literal ∷ [])) × (List·Memᴰ (eventOf literal) (map eventOf (vec-items (now (self .entry) .literals))) → ⊥)) (List·Memᴰ (eventOf literal) (map eventOf (vec-items (now (self .entry) .literals)))) ⌝ }
+    {
+        !self.settles(literal.event())
+    }
+
     // Takes one literal more, or refuses it and stays as it was.
     pub fn push(&mut self, literal: Literal) -> Result<(), TraceError>
         ensures taken { λ r. ⌜ Taken (vec-items (now (self .entry) .literals)) literal (vec-items (now (self .exit) .literals)) r ⌝ }
         ensures same { λ r. ⌜ refused r (λ e. e ≡ TraceError.Twice → now (self .exit) ≡ now (self .entry)) ⌝ }
         ensures full { λ r. ⌜ refused r (λ e. e ≡ TraceError.Memory → vec-cap (now (self .entry) .literals) ≤ vec-len (now (self .entry) .literals)) ⌝ }
     {
-        if self.settles(literal.event()) {
+        if !self.takes(literal) {
             return Err(TraceError::Twice);
         }
         match self.literals.push(literal) {

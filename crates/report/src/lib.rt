@@ -3,11 +3,7 @@ pub mod lines;
 pub mod names;
 pub mod walk;
 
-pub use lines::left_line;
-pub use lines::rule_line;
-pub use lines::rule_lines;
 pub use lines::settle;
-pub use names::read_literal;
 pub use walk::Outcome;
 pub use walk::Report;
 pub use walk::left;

@@ -27,7 +27,7 @@ pub fn settle(word: StatusWord, literal: Literal) -> StatusWord
 }
 
 // The line of a literal, with the three numbers of the position after it.
-pub fn left_line(
+pub(crate) fn left_line(
     heap: Global,
     text: &str,
     word: StatusWord,
@@ -35,7 +35,7 @@ pub fn left_line(
 ) -> Result<String, AllocError>
     ensures { λ r. ⌜ made r (λ s. string-bytes s ≡ leftLine (now (text .entry)) (bitsOf word) marks) ⌝ }
 {
-    let status = word.bits();
+    let status = word.bits;
     let met = marks.met;
     let struck = marks.struck;
     format!(heap, "(left {text} {status} {met} {struck})\n")
@@ -53,7 +53,7 @@ fn verdict(fulfilled: bool) -> &'static str
 }
 
 // The line of a rule.
-pub fn rule_line(heap: Global, number: usize, fulfilled: bool) -> Result<String, AllocError>
+pub(crate) fn rule_line(heap: Global, number: usize, fulfilled: bool) -> Result<String, AllocError>
     ensures { λ r. ⌜ made r (λ s. string-bytes s ≡ ruleLine number fulfilled) ⌝ }
 {
     let said = verdict(fulfilled);
@@ -61,7 +61,7 @@ pub fn rule_line(heap: Global, number: usize, fulfilled: bool) -> Result<String,
 }
 
 // The lines of all rules, numbered from 0.
-pub fn rule_lines(heap: Global, answers: &[bool]) -> Result<String, AllocError>
+pub(crate) fn rule_lines(heap: Global, answers: &[bool]) -> Result<String, AllocError>
     ensures { λ r. ⌜ made r (λ s. string-bytes s ≡ ruleLines 0 (now (answers .entry))) ⌝ }
 {
     let mut text = String::new(heap);

@@ -22,7 +22,7 @@ fn find(names: &[&[u8]], text: &[u8]) -> Option<u8>
 
 // The literal that `text` says over the names of events: a name says that the event happened, and a
 // name behind `~` that it never will. Absent if it says none.
-pub fn read_literal(names: &[&[u8]], text: &[u8]) -> Option<Literal>
+pub(crate) fn read_literal(names: &[&[u8]], text: &[u8]) -> Option<Literal>
     ensures { λ r. ⌜ Says (map now (now (names .entry))) (now (text .entry)) r ⌝ }
 {
     match find(names, text) {

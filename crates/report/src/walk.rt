@@ -1,6 +1,7 @@
 // What is left of rules, printed literal by literal.
 ghost use mathlib.Core.Path.{_≡_};
 ghost use mathlib.Core.List.{[], map};
+ghost use Prim.Native.Nat.{_+_};
 ghost use lib.ListN.{getD};
 ghost use Rattle.std.specs.Of.String.{string-bytes};
 ghost use Rattle.std.specs.Options.{mapped};
@@ -143,16 +144,23 @@ pub fn refusal(
     match outcome {
         Outcome::Complete => Ok(None),
         Outcome::Unknown(number) => {
-            let line = number as u128 + 1;
+            let line = line_of(number);
             let word = word_at(words, number);
             Ok(Some(format!(heap, "line {line}: there is no event for '{word}'")?))
         }
         Outcome::Twice(number) => {
-            let line = number as u128 + 1;
+            let line = line_of(number);
             let word = word_at(words, number);
             Ok(Some(format!(heap, "line {line}: the event of '{word}' came before")?))
         }
     }
+}
+
+// The line of the word of a number.
+fn line_of(number: usize) -> u128
+    ensures { λ r. ⌜ r ≡ number + 1 ⌝ }
+{
+    number as u128 + 1
 }
 
 // The word of a number; empty past the last.

@@ -12,7 +12,7 @@ use super::status::Status;
 #[derive(Clone, Copy)]
 pub struct StatusWord {
     // At most 2^24 - 1.
-    bits: u32,
+    pub bits: u32,
     ghost few: { bits < 2 ^ 24 },
 }
 
@@ -22,12 +22,6 @@ impl StatusWord {
         ensures { λ r. ⌜ r .bits ≡ packed (replicate 12 Open) ⌝ }
     {
         StatusWord { bits: 0 }
-    }
-
-    pub fn bits(self) -> u32
-        ensures { λ r. ⌜ r ≡ self .bits ⌝ }
-    {
-        self.bits
     }
 
     // The word with these bits; absent above 2^24 - 1.
@@ -45,26 +39,38 @@ impl StatusWord {
     pub fn get(self, event: u8) -> Option<Status>
         ensures { λ r. ⌜ r ≡ nth (statuses (self .bits)) event ⌝ }
     {
+        if event < 12 { self.status(event) } else { None }
+    }
+
+    // The word in which one event has another status, and all others have theirs; absent above event 11.
+    pub fn with(self, event: u8, status: Status) -> Option<StatusWord>
+        ensures { λ r. ⌜ Cases r (12 ≤ event) (λ w. (event < 12) × (w .bits ≡ packed (set (statuses (self .bits)) event status))) ⌝ }
+    {
         if event < 12 {
-            Status::from_number(((self.bits >> (2 * event)) & 3) as u8)
+            Some(self.replaced(event, status))
         } else {
             None
         }
     }
 
-    // The word in which one event has another status, and all others have theirs; absent above event 11.
-    pub fn with(self, event: u8, status: Status) -> Option<StatusWord>
-        ensures value { λ r. ⌜ Cases r (12 ≤ event) (λ w. (event < 12) × (w .bits ≡ packed (set (statuses (self .bits)) event status))) ⌝ }
+    fn status(self, event: u8) -> Option<Status>
+        requires { ⌜ event < 12 ⌝ }
+        ensures { λ r. ⌜ r ≡ nth (statuses (self .bits)) event ⌝ }
+    {
+        Status::from_number(((self.bits >> (2 * event)) & 3) as u8)
+    }
+
+    // The old status is taken out of its two bits, and the new one put in.
+    fn replaced(self, event: u8, status: Status) -> StatusWord
+        requires { ⌜ event < 12 ⌝ }
+        ensures value { λ r. ⌜ r .bits ≡ packed (set (statuses (self .bits)) event status) ⌝ }
         ensures packing { λ _. ⌜ Packing ⌝ }
     {
-        if event >= 12 {
-            return None;
-        }
         let shift = 2 * event;
         let old = (self.bits >> shift) & 3;
         let new = u32::from(status.number());
-        Some(StatusWord {
+        StatusWord {
             bits: self.bits - (old << shift) + (new << shift),
-        })
+        }
     }
 }

@@ -1,11 +1,8 @@
-use mathlib.Core.Path.{refl, ap, _∙_}
+use mathlib.Core.Path.{ap, _∙_}
 use Rattle.algebra.specs.Marks.{union}
 use Rattle.algebra.specs.Left.{gains, appliedAll}
 use Rattle.algebra.proofs.Folds.{fold-more, fold-all}
 use Rattle.algebra.proofs.rules.Rules.apply.Needs as need
-
-pub loop-rule-holds : need.loop-rule-holds
-loop-rule-holds c = refl
 
 pub loop-rule-again : need.loop-rule-again
 loop-rule-again c =

@@ -1,12 +1,8 @@
 use mathlib.Core.Path.{ap, _∙_}
-use Rattle.std.specs.Iters.{folded}
 use Rattle.algebra.specs.Marks.{union}
 use Rattle.algebra.specs.Left.{fresh, freshAll}
 use Rattle.algebra.proofs.Folds.{fold-more, fold-all}
 use Rattle.algebra.proofs.rules.Rules.fresh.Needs as need
-
-pub loop-rule-holds : need.loop-rule-holds
-loop-rule-holds c = ap (λ m. folded (λ sum x. union sum (fresh x)) m (c .deref-rule-items .result .now)) (c .none-sum .ensures)
 
 pub loop-rule-again : need.loop-rule-again
 loop-rule-again c =
