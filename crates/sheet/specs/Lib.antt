@@ -1,2 +1,3 @@
-pub mod Statuses
 pub mod Of
+pub mod Sheets
+pub mod Statuses
