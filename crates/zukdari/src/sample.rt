@@ -1,4 +1,5 @@
 // A small flow, built in code: a plate is made only after its approval.
+ghost use Prim.Native.Nat.{_<_};
 ghost use Rattle.std.specs.Of.Box.{box-value};
 ghost use Rattle.std.specs.Vec.{made};
 ghost use Rattle.algebra.specs.Of.{rulesOf};
@@ -9,6 +10,7 @@ use algebra::Head;
 use algebra::LeafNumber;
 use algebra::Literal;
 use algebra::Rules;
+use algebra::RulesError;
 use std::alloc::AllocError;
 use std::alloc::Global;
 
@@ -19,12 +21,14 @@ const APPROVE: u8 = 0;
 
 const PLATE: u8 = 1;
 
-// A leaf in a box; a number above 63 is refused as if there were no memory.
+// A leaf in a box.
 fn leaf(heap: Global, literal: Literal, number: u8) -> Result<Box<Expr>, AllocError>
+    requires { ⌜ number < 64 ⌝ }
     ensures { λ r. ⌜ made r (λ b. Holds literal number (box-value b)) ⌝ }
 {
-    let Some(number) = LeafNumber::new(number) else {
-        return Err(AllocError);
+    let number = match LeafNumber::new(number) {
+        Some(number) => number,
+        None => unreachable(),
     };
     let leaf = Box::new(heap, Expr::Leaf(Atom::Lit(literal), number))?;
     Ok(leaf)
@@ -41,6 +45,9 @@ pub fn rules(heap: Global) -> Result<Rules, AllocError>
     let mut rules = Rules::new(heap);
     match rules.push(Expr::Binary(Head::Alt, no_plate, in_order)) {
         Ok(()) => Ok(rules),
-        Err(_) => Err(AllocError),
+        Err(error) => match error {
+            RulesError::Memory(_) => Err(AllocError),
+            RulesError::Misnumbered(_) => unreachable(),
+        },
     }
 }
