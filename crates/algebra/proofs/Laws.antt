@@ -1,13 +1,18 @@
 -- The law of what is left.
 use mathlib.Core.Path.{_≡_, refl, sym, _∙_, ap, subst}
-use mathlib.Core.Bool.{Bool, true, false}
-use mathlib.Core.List.{List, [], _∷_, _++_, append-nil, List·Memᴰ, List·Memᴰ·head, List·Memᴰ·tail}
+use mathlib.Core.Bool.{Bool, true}
+use mathlib.Core.List.{List, [], _∷_, _++_, append-nil, List·Memᴰ, List·Memᴰ·head}
 use mathlib.Core.Logic.{_↔_, inl, inr}
-use Prim.Native.Nat.{ℕ, zero, suc, _<_}
-use native.Mathlib.Omega.{arith}
-use lib.ListN.{length, getD}
+use Prim.Native.Nat.{ℕ}
+use denote.Ref.{RefT, now}
+use lib.ListN.{length}
 use Rattle.std.specs.Iters.{folded, counting}
 use Rattle.std.specs.Joined.{joined}
+use Rattle.std.specs.Options.{mapped}
+use Rattle.std.specs.Places.{Item}
+use Rattle.std.specs.declared.option.Option.{Option}
+use Rattle.std.specs.declared.option.Option.the-variants.{None, Some}
+use Rattle.std.proofs.shelf.Maps.{nth-getD, nth-past}
 use Rattle.algebra.specs.declared.literal.Literal.{Literal}
 use Rattle.algebra.specs.declared.marks.Marks.{Marks}
 use Rattle.algebra.specs.declared.expr.Atom.the-variants.{Lit, Yes, No}
@@ -18,8 +23,8 @@ use Rattle.algebra.specs.Literals.{eventOf, Once, IsTrace}
 use Rattle.algebra.specs.Expressions.{leaves, Meets}
 use Rattle.algebra.specs.Left.{fresh, fulfilled, freshAll, appliedAll}
 use Rattle.algebra.specs.Laws.{Left-of-one, Left-of-rules}
-use Rattle.algebra.specs.Rules.{NumberedOn, Judged}
-use Rattle.algebra.proofs.Members.{once-head, once-counting}
+use Rattle.algebra.specs.Rules.{NumberedOn, RuleAt}
+use Rattle.algebra.proofs.Members.{once-counting, mem-getD}
 use Rattle.algebra.proofs.Trees.{Tree, MeetsT, doneT, applyT, nil-done, done-meets, left-to, left-from}
 use Rattle.algebra.proofs.Views.{view, tree, done-view, view-freshAll, view-all}
 
@@ -71,16 +76,14 @@ left-of-one x o u v r = left-of-rules (x ∷ []) (subst Once (sym (append-nil (l
 pub numbered-once : (xs : List Expr) → NumberedOn xs → Once (joined leaves xs)
 numbered-once xs n = subst Once (sym n) (once-counting 0 (length (joined leaves xs)))
 
--- answers that say of each rule whether it is fulfilled under m, where that says whether w meets it
-judged-part : (xs : List Expr) (m : Marks) (w : List Literal) (bs : List Bool) → length bs ≡ length xs → ((k : ℕ) → k < length xs → (d : Expr) → getD bs k false ≡ fulfilled (getD xs k d) m) → ((x : Expr) → List·Memᴰ x xs → (fulfilled x m ≡ true) ↔ Meets x w) → Judged xs w bs
-judged-part [] m w [] l f g = tt
-judged-part [] m w (b ∷ bs) l f g = absurd (omega arith)
-judged-part (x ∷ xs) m w [] l f g = absurd (omega arith)
-judged-part (x ∷ xs) m w (b ∷ bs) l f g = (
-  subst (λ a. (a ≡ true) ↔ Meets x w) (sym (f zero (omega arith) x)) (g x (List·Memᴰ·head refl)),
-  judged-part xs m w bs (omega arith) (λ k h d. f (suc k) (omega arith) d) (λ y h. g y (List·Memᴰ·tail h)),
-)
+-- a rule of a list, after a trace
+pub judged : (xs : List Expr) (x : Expr) (m : Marks) (w : List Literal) (b : Bool) → NumberedOn xs → IsTrace w → m ≡ folded (appliedAll xs) (freshAll xs) w → b ≡ fulfilled x m → List·Memᴰ x xs → (b ≡ true) ↔ Meets x w
+judged xs x m w b n r is e h =
+    subst (λ a. (a ≡ true) ↔ Meets x w) (sym (e ∙ ap (fulfilled x) is)) (left-of-rules xs (numbered-once xs n) x h [] w r)
 
-pub judged : (xs : List Expr) (m : Marks) (w : List Literal) (bs : List Bool) → NumberedOn xs → IsTrace w → m ≡ folded (appliedAll xs) (freshAll xs) w → length bs ≡ length xs → ((k : ℕ) → k < length xs → (d : Expr) → getD bs k false ≡ fulfilled (getD xs k d) m) → Judged xs w bs
-judged xs m w bs n r is l f =
-    judged-part xs m w bs l f (λ x h. subst (λ z. (fulfilled x z ≡ true) ↔ Meets x w) (sym is) (left-of-rules xs (numbered-once xs n) x h [] w r))
+-- the rule of a number, as a slice hands it out
+pub rule-at : (xs : List Expr) (k : ℕ) (r : Option (RefT Expr)) → Item xs k k r → RuleAt xs k (mapped now r)
+rule-at xs k None h = nth-past xs k (h .3)
+rule-at xs k (Some x) h =
+    let is = h .3 .1 (x .now) in
+    (nth-getD xs k (x .now) (h .3 .0) ∙ ap Some (sym is), subst (λ y. List·Memᴰ y xs) (sym is) (mem-getD xs k (x .now) (h .3 .0)))

@@ -4,14 +4,16 @@
 --                           there are at most 64 leaves, since a leaf's number is below 64
 --     Next xs x n           n is the number of leaves of the rules xs and x together; absent if they are not numbered on
 --     Added xs x ys r       what `push` says: asked to add the rule x to the rules xs, it answers r and leaves ys
---     Judged xs w bs        bs says of each of the rules xs, in turn, whether w meets it
+--     RuleAt xs k r         r is rule k of the rules xs, which is one of them; absent if there is no such rule
+--     Answers xs w k r      r says of rule k of the rules xs whether w meets it; absent if there is no such rule
 use mathlib.Core.Path.{_≡_}
 use mathlib.Core.Bool.{Bool, true}
-use mathlib.Core.List.{List, [], _∷_, _++_}
+use mathlib.Core.List.{List, [], _∷_, _++_, List·Memᴰ}
 use mathlib.Core.Logic.{_↔_}
 use Prim.Native.Nat.{ℕ, _≤_}
 use lib.ListN.{length}
 use Rattle.std.specs.Iters.{counting}
+use Rattle.std.specs.Finite.{nth}
 use Rattle.std.specs.Joined.{joined}
 use Rattle.std.specs.declared.option.Option.{Option}
 use Rattle.std.specs.declared.option.Option.the-variants.{None, Some}
@@ -38,8 +40,10 @@ Added xs x ys (Ok done) = (ys ≡ xs ++ (x ∷ [])) × NumberedOn (xs ++ (x ∷ 
 Added xs x ys (Err (Misnumbered y)) = (ys ≡ xs) × (y ≡ x) × (NumberedOn (xs ++ (x ∷ [])) → ⊥)
 Added xs x ys (Err (Memory y)) = (ys ≡ xs) × (y ≡ x) × NumberedOn (xs ++ (x ∷ []))
 
-abbrev pub Judged : List Expr → List Literal → List Bool → Type 0
-Judged [] w [] = Unit {0}
-Judged [] w (b ∷ bs) = ⊥
-Judged (x ∷ xs) w [] = ⊥
-Judged (x ∷ xs) w (b ∷ bs) = ((b ≡ true) ↔ Meets x w) × Judged xs w bs
+abbrev pub RuleAt : List Expr → ℕ → Option Expr → Type 0
+RuleAt xs k None = nth xs k ≡ None
+RuleAt xs k (Some x) = (nth xs k ≡ Some x) × List·Memᴰ x xs
+
+abbrev pub Answers : List Expr → List Literal → ℕ → Option Bool → Type 0
+Answers xs w k None = nth xs k ≡ None
+Answers xs w k (Some b) = (x : Expr) × (nth xs k ≡ Some x) × ((b ≡ true) ↔ Meets x w)

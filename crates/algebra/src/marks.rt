@@ -4,8 +4,8 @@ ghost use Rattle.algebra.specs.Marks.{none, metAt, struckAt, union, hasBit, is
 use super::leaf::LeafNumber;
 
 // A set of leaves that are met and a set of leaves that are struck: bit i stands for leaf i.
-// Each word may be any number of 64 bits. A leaf that is in both sets counts as met; literals
-// applied to fresh marks never make one.
+// Each word may be any number of 64 bits. A leaf that is in both sets counts as met; where leaves
+// have distinct numbers, none comes to be.
 #[derive(Clone, Copy)]
 pub struct Marks {
     pub met: u64,

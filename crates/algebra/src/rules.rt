@@ -1,23 +1,23 @@
 // Lists of rules that share one pair of mark words.
 ghost use mathlib.Core.Path.{_≡_};
-ghost use mathlib.Core.List.{[]};
-ghost use Prim.Native.Nat.{_<_, _≤_};
-ghost use lib.ListN.{length, getD};
+ghost use mathlib.Core.Bool.{true};
+ghost use mathlib.Core.List.{[], List·Memᴰ};
+ghost use mathlib.Core.Logic.{_↔_};
+ghost use Prim.Native.Nat.{_≤_};
+ghost use lib.ListN.{length};
 ghost use Rattle.std.specs.Iters.{folded};
 ghost use Rattle.std.specs.Joined.{joined};
 ghost use Rattle.std.specs.Of.Vec.{vec-items, vec-len, vec-cap};
-ghost use Rattle.std.specs.Options.{Cases};
-ghost use Rattle.std.specs.Vec.{made, refused};
-ghost use Rattle.algebra.specs.declared.expr.Expr.{Expr as Rule};
-ghost use Rattle.algebra.specs.Expressions.{leaves};
+ghost use Rattle.std.specs.Options.{mapped};
+ghost use Rattle.std.specs.Vec.{refused};
+ghost use Rattle.algebra.specs.Expressions.{leaves, Meets};
 ghost use Rattle.algebra.specs.Left.{freshAll, appliedAll};
 ghost use Rattle.algebra.specs.Laws.{Left-of-one, Left-of-rules};
-ghost use Rattle.algebra.specs.Rules.{NumberedOn, Next, Added, Judged};
+ghost use Rattle.algebra.specs.Rules.{NumberedOn, Next, Added, RuleAt, Answers};
 use super::expr::Expr;
 use super::literal::Literal;
 use super::marks::Marks;
 use super::trace::Trace;
-use std::alloc::AllocError;
 use std::alloc::Global;
 
 // Rules whose leaves are numbered from 0 through all of them, as written; 64 leaves at most.
@@ -84,7 +84,13 @@ impl Rules {
 
     // The rule of a number, counted from 0; absent past the last.
     pub fn get(&self, number: usize) -> Option<&Expr>
-        ensures { λ r. ⌜ Cases r (length (vec-items (now (self .entry) .list)) ≤ number) (λ x. (number < length (vec-items (now (self .entry) .list))) × ((d : Rule) → now x ≡ getD (vec-items (now (self .entry) .list)) number d)) ⌝ }
+        ensures { λ r. ⌜ RuleAt (vec-items (now (self .entry) .list)) number (mapped now r) ⌝ }
+    {
+        self.rule(number)
+    }
+
+    fn rule(&self, number: usize) -> Option<&Expr>
+        ensures { λ r. ⌜ RuleAt (vec-items (now (self .entry) .list)) number (mapped now r) ⌝ }
     {
         self.list.get(number)
     }
@@ -122,17 +128,25 @@ impl Rules {
         marks
     }
 
-    // Applies a trace, and says of each rule in turn whether it is fulfilled then: that is, whether the trace meets it.
-    pub fn fulfilled_by(&self, heap: Global, trace: &Trace) -> Result<Vec<bool>, AllocError>
-        ensures judged { λ r. ⌜ made r (λ v. Judged (vec-items (now (self .entry) .list)) (vec-items (now (trace .entry) .literals)) (vec-items v)) ⌝ }
+    // Applies a trace to the rules, and says whether the rule of a number is fulfilled then: that is,
+    // whether the trace meets it. Absent past the last rule.
+    pub fn fulfilled_by(&self, number: usize, trace: &Trace) -> Option<bool>
+        ensures answer { λ r. ⌜ Answers (vec-items (now (self .entry) .list)) (vec-items (now (trace .entry) .literals)) number r ⌝ }
         ensures one { λ _. ⌜ Left-of-one ⌝ }
         ensures each { λ _. ⌜ Left-of-rules ⌝ }
     {
-        let marks = self.after(trace);
-        let mut answers = Vec::new(heap);
-        for rule in self.list.iter() {
-            answers.push(rule.fulfilled(marks))?;
+        match self.rule(number) {
+            None => None,
+            Some(rule) => Some(self.judge(rule, trace)),
         }
-        Ok(answers)
+    }
+
+    // Whether an expression is fulfilled after a trace; of a rule of the list, whether the trace meets it.
+    fn judge(&self, rule: &Expr, trace: &Trace) -> bool
+        ensures judged { λ r. ⌜ (List·Memᴰ (now (rule .entry)) (vec-items (now (self .entry) .list)) → (r ≡ true) ↔ Meets (now (rule .entry)) (vec-items (now (trace .entry) .literals))) ⌝ }
+        ensures one { λ _. ⌜ Left-of-one ⌝ }
+        ensures each { λ _. ⌜ Left-of-rules ⌝ }
+    {
+        rule.fulfilled(self.after(trace))
     }
 }

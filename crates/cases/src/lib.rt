@@ -2,17 +2,25 @@
 
 #[cfg(test)]
 mod build;
+mod digit;
 
 #[cfg(test)]
 mod tests {
     use super::build;
     use super::build::BadDebug;
+    use super::digit::LastDigit;
+    use super::digit::LastDigitKey;
     use algebra::Rules;
     use report::left;
     use report::refusal;
     use report::settle;
     use sheet::Status;
     use sheet::StatusWord;
+    use slots::Inserted;
+    use slots::Slot;
+    use slots::clear;
+    use slots::find;
+    use slots::insert;
     use std::alloc::Global;
     use std::test::*;
 
@@ -67,12 +75,14 @@ mod tests {
         check_eq(word.bits, status)?;
         check_eq(marks.met, met)?;
         check_eq(marks.struck, struck)?;
-        let answers = rules.fulfilled_by(heap, &trace)?;
-        check(answers.len() == fulfilled.len())?;
-        for (number, answer) in answers.iter().enumerate() {
-            check_eq(Some(*answer), build::verdict(fulfilled, number))?;
+        check_eq(rules.len(), fulfilled.len())?;
+        for number in 0..rules.len() {
+            check_eq(
+                rules.fulfilled_by(number, &trace),
+                build::verdict(fulfilled, number),
+            )?;
         }
-        Ok(())
+        check_eq(rules.fulfilled_by(rules.len(), &trace), None)
     }
 
     #[test]
@@ -169,5 +179,45 @@ mod tests {
         check(rules.get(63).is_some())?;
         check(rules.get(64).is_none())?;
         check(build::yes(64).is_err())
+    }
+
+    fn digit(number: u32) -> LastDigit {
+        LastDigit { number }
+    }
+
+    fn told(answer: Inserted) -> u32 {
+        match answer {
+            Inserted::New => 1000,
+            Inserted::Present(value) => value,
+            Inserted::Full => 2000,
+        }
+    }
+
+    #[test]
+    fn keys_are_inserted_once_and_found() -> Result<(), Fail> {
+        let mut slots = [
+            Slot::Taken(digit(7), 9),
+            Slot::Free,
+            Slot::Taken(digit(8), 9),
+        ];
+        clear(&mut slots);
+        check_eq(find(&slots, &digit(7)), None)?;
+        check_eq(told(insert(&mut slots, digit(7), 1)), 1000)?;
+        check_eq(told(insert(&mut slots, digit(9), 2)), 1000)?;
+        check_eq(told(insert(&mut slots, digit(17), 3)), 1)?;
+        check_eq(told(insert(&mut slots, digit(4), 4)), 1000)?;
+        check_eq(told(insert(&mut slots, digit(5), 5)), 2000)?;
+        check_eq(find(&slots, &digit(27)), Some(1))?;
+        check_eq(find(&slots, &digit(39)), Some(2))?;
+        check_eq(find(&slots, &digit(14)), Some(4))?;
+        check_eq(find(&slots, &digit(15)), None)
+    }
+
+    #[test]
+    fn no_slots_are_full() -> Result<(), Fail> {
+        let mut slots: [Slot<LastDigit>; 0] = [];
+        clear(&mut slots);
+        check_eq(told(insert(&mut slots, digit(1), 1)), 2000)?;
+        check_eq(find(&slots, &digit(1)), None)
     }
 }

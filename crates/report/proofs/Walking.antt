@@ -1,6 +1,5 @@
 -- Words taken one by one.
 use mathlib.Core.Path.{_≡_, refl, sym, ap, subst, _∙_}
-use mathlib.Core.Bool.{Bool}
 use mathlib.Core.List.{List, [], _∷_, _++_, map, append-assoc, append-nil, List·Memᴰ, List·Memᴰ·head, List·Memᴰ·not-nil, List·Memᴰ·cases-cons, List·Memᴰ·append-cases}
 use mathlib.Core.Logic.{⊎-elim}
 use Prim.Native.Nat.{ℕ, _+_, _<_, _≤_}
@@ -18,7 +17,6 @@ use Rattle.algebra.specs.declared.expr.Expr.{Expr}
 use Rattle.algebra.specs.Literals.{eventOf, IsTrace}
 use Rattle.algebra.specs.Left.{freshAll, appliedAll}
 use Rattle.algebra.specs.Of.{literalsOf}
-use Rattle.algebra.specs.Rules.{Judged}
 use Rattle.sheet.specs.declared.status.Status.{Status}
 use Rattle.sheet.specs.declared.status.Status.the-variants.{Open}
 use Rattle.sheet.specs.Of.{bitsOf}
@@ -29,7 +27,7 @@ use Rattle.report.specs.declared.walk.Outcome.the-variants as outcome
 use Rattle.report.specs.declared.walk.Step.{Step}
 use Rattle.report.specs.declared.walk.Step.the-variants as step
 use Rattle.report.specs.declared.walk.Walk.{Walk}
-use Rattle.report.specs.Lines.{settles, settled, statusesAfter, marksAfter, leftLine, leftLines, ruleLines}
+use Rattle.report.specs.Lines.{settles, settled, statusesAfter, marksAfter, leftLine, leftLines, RuleLines}
 use Rattle.report.specs.Texts.{Named, textOf, Says}
 use Rattle.report.specs.Walks.{Begun, Grown, Took, Spelt, Told}
 
@@ -133,13 +131,13 @@ module _ (names : List (List ℕ)) (xs : List Expr) (words : List (String Global
       (literalsOf (s .trace), l, old .spelt, within, subst (λ z. Says names z (Some l)) here says, before, printed ∙ ap (λ z. string-bytes (z .text)) same ∙ old .text)
 
 -- the walk over all words, and what the rules came to
-pub told-complete : (names : List (List ℕ)) (xs : List Expr) (words : List (String Global)) (k : ℕ) (s : Walk) (bs : List Bool) (lines text : List ℕ) (o : Outcome) → length words ≤ k → Walked names xs (take k (map string-bytes words)) s → Judged xs (literalsOf (s .trace)) bs → lines ≡ ruleLines 0 bs → text ≡ string-bytes (s .text) ++ lines → o ≡ outcome.Complete → Told names xs (map string-bytes words) text o
-told-complete names xs words k s bs lines text o h old judged is printed end =
+pub told-complete : (names : List (List ℕ)) (xs : List Expr) (words : List (String Global)) (k : ℕ) (s : Walk) (lines text : List ℕ) (o : Outcome) → length words ≤ k → Walked names xs (take k (map string-bytes words)) s → RuleLines xs (literalsOf (s .trace)) lines → text ≡ string-bytes (s .text) ++ lines → o ≡ outcome.Complete → Told names xs (map string-bytes words) text o
+told-complete names xs words k s lines text o h old judged printed end =
     let ds = map string-bytes words in
     subst (Told names xs ds text) (sym end) (
       literalsOf (s .trace),
-      bs,
+      lines,
       subst (Spelt names (literalsOf (s .trace))) (take-all k ds (let l = length-map words string-bytes in omega arith)) (old .spelt),
       judged,
-      printed ∙ ap (λ z. z ++ lines) (old .text) ∙ ap (λ z. leftLines names xs [] (literalsOf (s .trace)) ++ z) is,
+      printed ∙ ap (λ z. z ++ lines) (old .text),
     )

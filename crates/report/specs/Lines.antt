@@ -7,12 +7,16 @@
 --     leftLines names xs u v    the lines of the literals v, in turn, where the literals u came before them
 --     verdictOf b               what is said of a rule, which is fulfilled if b
 --     ruleLine k b              the line of rule k, which is fulfilled if b
---     ruleLines k bs            the lines of the rules from k on
+--     ruleLines k bs            the lines of the rules from k on, which are fulfilled as bs says
+--     Judged xs w bs            bs says of each of the rules xs, in turn, whether w meets it
+--     RuleLines xs w t          t are the lines of the rules xs, each fulfilled exactly if w meets it
+use mathlib.Core.Path.{_≡_}
 use mathlib.Core.Bool.{Bool, true, false}
 use mathlib.Core.List.{List, [], _∷_, _++_}
-use Prim.Native.Nat.{ℕ, _+_}
+use Prim.Native.Nat.{ℕ, _+_, _<_}
 use lib.Chars.{codes}
-use lib.ListN.{set, replicate}
+use lib.ListN.{length, set, replicate}
+use Rattle.std.specs.Finite.{nth}
 use Rattle.std.specs.Iters.{folded}
 use Rattle.std.specs.Written.{decimal}
 use Rattle.algebra.specs.declared.literal.Literal.{Literal}
@@ -21,6 +25,7 @@ use Rattle.algebra.specs.declared.marks.Marks.{Marks}
 use Rattle.algebra.specs.declared.expr.Expr.{Expr}
 use Rattle.algebra.specs.Literals.{eventOf}
 use Rattle.algebra.specs.Left.{freshAll, appliedAll}
+use Rattle.algebra.specs.Rules.{Answers}
 use Rattle.sheet.specs.declared.status.Status.{Status}
 use Rattle.sheet.specs.declared.status.Status.the-variants as status
 use Rattle.sheet.specs.Statuses.{packed}
@@ -58,3 +63,9 @@ ruleLine k b = codes "(rule " ++ (decimal k ++ (codes " " ++ (verdictOf b ++ cod
 abbrev pub ruleLines : ℕ → List Bool → List ℕ
 ruleLines k [] = []
 ruleLines k (b ∷ bs) = ruleLine k b ++ ruleLines (k + 1) bs
+
+abbrev pub Judged : List Expr → List Literal → List Bool → Type 0
+Judged xs w bs = (length bs ≡ length xs) × ((k : ℕ) → k < length xs → Answers xs w k (nth bs k))
+
+abbrev pub RuleLines : List Expr → List Literal → List ℕ → Type 0
+RuleLines xs w t = (bs : List Bool) × Judged xs w bs × (t ≡ ruleLines 0 bs)

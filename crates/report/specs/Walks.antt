@@ -5,7 +5,6 @@
 --     Told names xs ds t o     of the words ds the bytes t are printed, and o is how far they were read
 --     refusalOf ds o           what is said to people of the words ds, where not all were read
 use mathlib.Core.Path.{_≡_}
-use mathlib.Core.Bool.{Bool}
 use mathlib.Core.List.{List, [], _∷_, _++_, map, List·Memᴰ}
 use Prim.Native.Nat.{ℕ, _+_, _<_}
 use lib.Chars.{codes}
@@ -22,7 +21,6 @@ use Rattle.algebra.specs.declared.expr.Expr.{Expr}
 use Rattle.algebra.specs.Literals.{eventOf, IsTrace}
 use Rattle.algebra.specs.Left.{freshAll, appliedAll}
 use Rattle.algebra.specs.Of.{literalsOf}
-use Rattle.algebra.specs.Rules.{Judged}
 use Rattle.sheet.specs.declared.status.Status.the-variants.{Open}
 use Rattle.sheet.specs.Of.{bitsOf}
 use Rattle.sheet.specs.Statuses.{packed, statuses}
@@ -31,7 +29,7 @@ use Rattle.report.specs.declared.walk.Outcome.the-variants as outcome
 use Rattle.report.specs.declared.walk.Step.{Step}
 use Rattle.report.specs.declared.walk.Step.the-variants as step
 use Rattle.report.specs.declared.walk.Walk.{Walk}
-use Rattle.report.specs.Lines.{settled, leftLine, leftLines, ruleLines}
+use Rattle.report.specs.Lines.{settled, leftLine, leftLines, RuleLines}
 use Rattle.report.specs.Texts.{Named, textOf, Says}
 
 pub record Begun (xs : List Expr) (s : Walk) : Type 0 where
@@ -60,7 +58,7 @@ pub record Spelt (names : List (List ℕ)) (w : List Literal) (ds : List (List �
 
 abbrev pub Told : List (List ℕ) → List Expr → List (List ℕ) → List ℕ → Outcome → Type 0
 Told names xs ds t outcome.Complete =
-    (w : List Literal) × (bs : List Bool) × Spelt names w ds × Judged xs w bs × (t ≡ leftLines names xs [] w ++ ruleLines 0 bs)
+    (w : List Literal) × (verdicts : List ℕ) × Spelt names w ds × RuleLines xs w verdicts × (t ≡ leftLines names xs [] w ++ verdicts)
 Told names xs ds t (outcome.Unknown k) =
     (w : List Literal) × Spelt names w (take k ds) × (k < length ds) × Says names (getD ds k []) None × (t ≡ leftLines names xs [] w)
 Told names xs ds t (outcome.Twice k) =

@@ -2,11 +2,14 @@
 ghost use mathlib.Core.Path.{_≡_};
 ghost use Rattle.std.specs.Of.String.{string-bytes};
 ghost use Rattle.std.specs.Vec.{made};
+ghost use Rattle.algebra.specs.Of.{rulesOf, literalsOf};
 ghost use Rattle.sheet.specs.Of.{bitsOf};
 ghost use Rattle.sheet.specs.Statuses.{packed, statuses};
-ghost use Rattle.report.specs.Lines.{settled, leftLine, verdictOf, ruleLine, ruleLines};
+ghost use Rattle.report.specs.Lines.{settled, leftLine, verdictOf, ruleLine, RuleLines};
 use algebra::Literal;
 use algebra::Marks;
+use algebra::Rules;
+use algebra::Trace;
 use sheet::Status;
 use sheet::StatusWord;
 use std::alloc::AllocError;
@@ -60,14 +63,19 @@ pub(crate) fn rule_line(heap: Global, number: usize, fulfilled: bool) -> Result<
     format!(heap, "(rule {number} {said})\n")
 }
 
-// The lines of all rules, numbered from 0.
-pub(crate) fn rule_lines(heap: Global, answers: &[bool]) -> Result<String, AllocError>
-    ensures { λ r. ⌜ made r (λ s. string-bytes s ≡ ruleLines 0 (now (answers .entry))) ⌝ }
+// The lines of all rules, numbered from 0, after a trace.
+pub(crate) fn rule_lines(heap: Global, rules: &Rules, trace: &Trace) -> Result<String, AllocError>
+    ensures { λ r. ⌜ made r (λ s. RuleLines (rulesOf (now (rules .entry))) (literalsOf (now (trace .entry))) (string-bytes s)) ⌝ }
 {
     let mut text = String::new(heap);
-    for (number, fulfilled) in answers.iter().enumerate() {
-        let line = rule_line(heap, number, *fulfilled)?;
-        text.push_str(line.as_str())?;
+    for number in 0..rules.len() {
+        match rules.fulfilled_by(number, trace) {
+            None => unreachable(),
+            Some(fulfilled) => {
+                let line = rule_line(heap, number, fulfilled)?;
+                text.push_str(line.as_str())?;
+            }
+        }
     }
     Ok(text)
 }

@@ -21,7 +21,7 @@ use std::alloc::AllocError;
 use std::alloc::Global;
 
 // How far a list of words was read as literals: all of it, or up to the word of that number,
-// counted from 0, which is no literal or whose event came before.
+// counted from 0 and below the number of words, which is no literal or whose event came before.
 #[derive(Clone, Copy)]
 pub enum Outcome {
     Complete,
@@ -126,8 +126,7 @@ pub fn left(
             Step::Twice => return Ok(walk.report(Outcome::Twice(number))),
         }
     }
-    let answers = rules.fulfilled_by(heap, &walk.trace)?;
-    let lines = rule_lines(heap, answers.as_slice())?;
+    let lines = rule_lines(heap, rules, &walk.trace)?;
     walk.text.push_str(lines.as_str())?;
     Ok(walk.report(Outcome::Complete))
 }

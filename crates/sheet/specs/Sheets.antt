@@ -1,21 +1,9 @@
--- What sheets tell of events. Assumes nothing.
---     sameGrade a b       whether a and b are one grade
---     sameEvent a b       whether a and b tell the same of an event
-use mathlib.Core.Bool.{Bool, true, false, _&&_, Bool·beq}
-use Rattle.sheet.specs.declared.grade.Grade.{Grade}
-use Rattle.sheet.specs.declared.grade.Grade.the-variants.{Flexible, Inevitable, Immediate}
+-- What sheets tell. Assumes nothing.
+--     IsSheet es       the events es can stand on one sheet: there are at most twelve
+use mathlib.Core.List.{List}
+use Prim.Native.Nat.{_≤_}
+use lib.ListN.{length}
 use Rattle.sheet.specs.declared.grade.Event.{Event}
 
-abbrev pub sameGrade : Grade → Grade → Bool
-sameGrade Flexible Flexible = true
-sameGrade Flexible Inevitable = false
-sameGrade Flexible Immediate = false
-sameGrade Inevitable Flexible = false
-sameGrade Inevitable Inevitable = true
-sameGrade Inevitable Immediate = false
-sameGrade Immediate Flexible = false
-sameGrade Immediate Inevitable = false
-sameGrade Immediate Immediate = true
-
-abbrev pub sameEvent : Event → Event → Bool
-sameEvent a b = sameGrade (a .grade) (b .grade) && Bool·beq (a .forcible) (b .forcible)
+abbrev pub IsSheet : List Event → Type 0
+IsSheet es = length es ≤ 12

@@ -2,13 +2,13 @@
 ghost use mathlib.Core.Path.{_≡_};
 ghost use mathlib.Core.Bool.{true};
 ghost use mathlib.Core.Logic.{_↔_};
-ghost use Rattle.sheet.specs.Sheets.{sameGrade, sameEvent};
+ghost use Rattle.std.specs.Orderings.{Decides};
 use super::grade::Event;
 use super::grade::Grade;
 use super::sheet::Sheet;
 
 pub impl PartialEq<Grade> for Grade as GradePartialEq {
-    ghost equals = { λ a b r. r ≡ sameGrade a b };
+    ghost equals = { λ a b r. Decides r (a ≡ b) };
 
     fn eq(&self, other: &Grade) -> bool {
         match (*self, *other) {
@@ -21,7 +21,7 @@ pub impl PartialEq<Grade> for Grade as GradePartialEq {
 }
 
 pub impl PartialEq<Event> for Event as EventPartialEq {
-    ghost equals = { λ a b r. r ≡ sameEvent a b };
+    ghost equals = { λ a b r. Decides r (a ≡ b) };
 
     fn eq(&self, other: &Event) -> bool {
         self.grade == other.grade && self.forcible == other.forcible

@@ -6,9 +6,9 @@ ghost use Rattle.sheet.specs.Statuses.{number};
 
 #[derive(Clone, Copy)]
 pub enum Status {
-    // Nothing was heard of the event yet.
+    // Neither tried nor settled.
     Open,
-    // It was tried, and waits for an answer.
+    // Tried, and not settled yet.
     Waiting,
     Happened,
     // It did not happen, and never will.

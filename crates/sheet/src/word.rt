@@ -44,7 +44,8 @@ impl StatusWord {
 
     // The word in which one event has another status, and all others have theirs; absent above event 11.
     pub fn with(self, event: u8, status: Status) -> Option<StatusWord>
-        ensures { λ r. ⌜ Cases r (12 ≤ event) (λ w. (event < 12) × (w .bits ≡ packed (set (statuses (self .bits)) event status))) ⌝ }
+        ensures value { λ r. ⌜ Cases r (12 ≤ event) (λ w. (event < 12) × (w .bits ≡ packed (set (statuses (self .bits)) event status))) ⌝ }
+        ensures packing { λ _. ⌜ Packing ⌝ }
     {
         if event < 12 {
             Some(self.replaced(event, status))

@@ -15,7 +15,7 @@ use Rattle.slots.specs.declared.slot.Slot.{Slot}
 use Rattle.slots.specs.declared.slot.Slot.the-variants.{Free, Taken}
 use Rattle.slots.specs.declared.slot.Sought.{Sought}
 use Rattle.slots.specs.declared.slot.Sought.the-variants.{Found, Room, Full}
-use Rattle.slots.specs.Maps.{at, isFree, Holds, Filled, Way, Sound, Cleared, Inserts, taken}
+use Rattle.slots.specs.Maps.{at, isFree, Holds, Filled, Way, Valid, Cleared, Inserts, taken}
 use Rattle.slots.specs.Search.{Lacks, Scans, Seeks}
 
 pub between-more : (P : ℕ → Type 0) (a i : ℕ) → ((j : ℕ) → a ≤ j → j < i → P j) → P i → (j : ℕ) → a ≤ j → j < i + 1 → P j
@@ -82,14 +82,14 @@ module _ {K : Type 0} (same : K → K → Bool) where
         (λ m. cond-false (same k x) _ _ m ∙ ih ∙ ap (cond (same q x) (Some v)) (sym (cond-false (same k x) _ _ m)))
         (cases-bool (same k x))
 
-    module _ (hash : K → ℕ) (shared : (x y : K) → same x y ≡ true → hash x ≡ hash y) (s : List (Slot K)) (q : K) (sound : Sound same hash s) where
+    module _ (hash : K → ℕ) (shared : (x y : K) → same x y ≡ true → hash x ≡ hash y) (s : List (Slot K)) (q : K) (valid : Valid same hash s) where
       -- a slot with the key is reached from the key's home
       pub way-there : (i : ℕ) (k : K) (v : ℕ) → Holds s i k v → same k q ≡ true → Way s (hash q % length s) i
-      way-there i k v h e = subst (λ (d : ℕ). Way s (d % length s) i) (shared k q e) (sound .reached i k v h)
+      way-there i k v h e = subst (λ (d : ℕ). Way s (d % length s) i) (shared k q e) (valid .reached i k v h)
 
       -- the first search, from the home to the end
       pub first-search : (r : Sought) → Scans same s q (hash q % length s) (length s) r → (r ≡ Full → ⊥) → Seeks same hash s q r
-      first-search (Found v) (i, k, h, e) ne = at-some s q i k v (sound .apart) h e
+      first-search (Found v) (i, k, h, e) ne = at-some s q i k v (valid .apart) h e
       first-search Full h ne = absurd (ne refl)
       first-search (Room i) (low, high, free, filled, lacks) ne =
           let all : Lacks same s q 0 (length s) = λ j _ m k v h. false-unless (same k q) (λ e.
@@ -106,7 +106,7 @@ module _ {K : Type 0} (same : K → K → Bool) where
       -- the second search, from the start to the home
       pub second-search : (r : Sought) → hash q % length s ≤ length s → Filled s (hash q % length s) (length s) → Lacks same s q (hash q % length s) (length s)
           → Scans same s q 0 (hash q % length s) r → Seeks same hash s q r
-      second-search (Found v) hn fill lack (i, k, h, e) = at-some s q i k v (sound .apart) h e
+      second-search (Found v) hn fill lack (i, k, h, e) = at-some s q i k v (valid .apart) h e
       second-search Full hn fill lack (filled, lacks) =
           let full : Filled s 0 (length s) = λ j low high. ⊎-elim (λ l. filled j low l) (λ m. fill j m high) (cases-lt j (hash q % length s)) in
           let all : Lacks same s q 0 (length s) = λ j low high. ⊎-elim (λ l. lacks j low l) (λ m. lack j m high) (cases-lt j (hash q % length s)) in
@@ -134,8 +134,8 @@ module _ {K : Type 0} (same : K → K → Bool) where
         way-set : (h j : ℕ) → Way s h j → Way (set s i (Taken q v)) h j
         way-set h j w = ((λ l. filled-set h j (w .0 l)), (λ l. (subst (Filled (set s i (Taken q v)) h) (sym (length-set s i (Taken q v))) (filled-set h (length s) (w .1 l .0)), filled-set 0 j (w .1 l .1))))
 
-        pub sound-set : Sound same hash (set s i (Taken q v))
-        sound-set = record {
+        pub valid-set : Valid same hash (set s i (Taken q v))
+        valid-set = record {
           reached = λ j k w h.
               let len : length (set s i (Taken q v)) ≡ length s = length-set s i (Taken q v) in
               subst (λ (n : ℕ). Way (set s i (Taken q v)) (hash k % n) j) (sym len)
@@ -146,7 +146,7 @@ module _ {K : Type 0} (same : K → K → Bool) where
               let m : q ≡ k = cc in
               subst (λ (x : K). Way (set s i (Taken q v)) (hash x % length s) j) m
               (subst (λ (n : ℕ). Way (set s i (Taken q v)) (hash q % length s) n) (sym e) (way-set (hash q % length s) i way)))
-              (λ ne. way-set (hash k % length s) j (sound .reached j k w (sym (getD-set-other s i j (Taken q v) Free ne) ∙ h)))
+              (λ ne. way-set (hash k % length s) j (valid .reached j k w (sym (getD-set-other s i j (Taken q v) Free ne) ∙ h)))
               (cases-eq j i));
           apart = λ a b k l u w ha hb e.
               let here = getD-set-same s i (Taken q v) Free within in
@@ -166,7 +166,7 @@ module _ {K : Type 0} (same : K → K → Bool) where
               let t : getD (set s i (Taken q v)) i Free ≡ Taken l w = subst (λ (n : ℕ). Holds (set s i (Taken q v)) n l w) bi hb in
               let m : l ≡ q = cc in
               absurd (both-ways (same k q) (lacks a (omega arith) (held-within s a k u ha′) k u ha′) (subst (λ (x : K). same k x ≡ true) m e)))
-              (λ nb. sound .apart a b k l u w ha′ (sym (getD-set-other s i b (Taken q v) Free nb) ∙ hb) e)
+              (λ nb. valid .apart a b k l u w ha′ (sym (getD-set-other s i b (Taken q v) Free nb) ∙ hb) e)
               (cases-eq b i))
               (cases-eq a i);
         }
@@ -197,8 +197,8 @@ module _ {K : Type 0} where
   none-taken (Free ∷ s) f = none-taken s (λ k l. f (suc k) (omega arith))
   none-taken (Taken k v ∷ s) f = absurd (free-taken (Taken k v ∷ s) 0 k v (f 0 (omega arith)) refl)
 
-  pub all-free-sound : (same : K → K → Bool) (hash : K → ℕ) (s : List (Slot K)) → ((k : ℕ) → k < length s → getD s k Free ≡ Free) → Sound same hash s
-  all-free-sound same hash s f = record {
+  pub all-free-valid : (same : K → K → Bool) (hash : K → ℕ) (s : List (Slot K)) → ((k : ℕ) → k < length s → getD s k Free ≡ Free) → Valid same hash s
+  all-free-valid same hash s f = record {
     reached = λ i k v h. absurd (free-taken s i k v (free-everywhere s f i) h);
     apart = λ i j k l v w h h′ e. absurd (free-taken s i k v (free-everywhere s f i) h);
   }
@@ -218,7 +218,7 @@ module _ {K : Type 0} where
   pub cleared : (same : K → K → Bool) (hash : K → ℕ) (s t : List (Slot K)) → length t ≡ length s → ((k : ℕ) → k < length t → getD t k Free ≡ Free) → Cleared same hash s t
   cleared same hash s t l f = record {
     free = all-free s t l f;
-    sound = all-free-sound same hash t f;
+    valid = all-free-valid same hash t f;
     none = all-free-none same t f;
     empty = none-taken t f;
   }

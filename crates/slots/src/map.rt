@@ -2,7 +2,7 @@
 ghost use mathlib.Core.Path.{_≡_};
 ghost use Prim.Native.Nat.{_≤_};
 ghost use lib.ListN.{length};
-ghost use Rattle.slots.specs.Maps.{at, Sound, Cleared, Inserts};
+ghost use Rattle.slots.specs.Maps.{at, Valid, Cleared, Inserts};
 ghost use Rattle.slots.specs.Search.{Scans, Seeks};
 use super::key::Key;
 use super::slot::Inserted;
@@ -20,7 +20,7 @@ pub fn clear<K: Key + Drop>(slots: &mut [Slot<K>])
 
 // The value of a key; absent if no key that is the same was inserted.
 pub fn find<K: Key>(slots: &[Slot<K>], key: &K) -> Option<u32>
-    requires { ⌜ Sound same hash (now slots) ⌝ }
+    requires { ⌜ Valid same hash (now slots) ⌝ }
     ensures { λ r. ⌜ r ≡ at same (now (slots .entry)) (now (key .entry)) ⌝ }
 {
     match seek(slots, key) {
@@ -31,22 +31,24 @@ pub fn find<K: Key>(slots: &[Slot<K>], key: &K) -> Option<u32>
 
 // Inserts a key with its value if it is new and a slot is free; otherwise the slots stay as they are.
 pub fn insert<K: Key + Drop>(slots: &mut [Slot<K>], key: K, value: u32) -> Inserted
-    requires { ⌜ Sound same hash (now slots) ⌝ }
-    ensures { λ r. ⌜ Inserts same hash (now (slots .entry)) (now (slots .exit)) key value r ⌝ }
+    requires { ⌜ Valid same hash (now slots) ⌝ }
+    ensures inserts { λ r. ⌜ Inserts same (now (slots .entry)) (now (slots .exit)) key value r ⌝ }
+    ensures valid { λ _. ⌜ Valid same hash (now (slots .exit)) ⌝ }
 {
     match seek(slots, &key) {
         Sought::Room(place) => {
             slots[place] = Slot::Taken(key, value);
             Inserted::New
         }
-        Sought::Found(value) => Inserted::Present(value),
+        Sought::Found(present) => Inserted::Present(present),
         Sought::Full => Inserted::Full,
     }
 }
 
-// The first slot from the key's home on, around the end, that is free or has the key.
+// The first slot from the key's home on, around the end, that is free or has the key. The home is the
+// hash modulo the number of slots.
 fn seek<K: Key>(slots: &[Slot<K>], key: &K) -> Sought
-    requires { ⌜ Sound same hash (now slots) ⌝ }
+    requires { ⌜ Valid same hash (now slots) ⌝ }
     ensures { λ r. ⌜ Seeks same hash (now (slots .entry)) (now (key .entry)) r ⌝ }
 {
     let n = slots.len();

@@ -12,13 +12,14 @@ pub enum Slot<K> {
 pub enum Inserted {
     // It is new, and has its value now.
     New,
-    // It was there, with this value, and still is.
+    // It was there, with this value, at most 4,294,967,295, and still is.
     Present(u32),
     // It is new, and every slot is taken.
     Full,
 }
 
-// Where a search ended: at the value of the key, at the first free slot, or nowhere.
+// Where a search ended: at the value of the key, at the first free slot, whose place is below the
+// number of slots, or nowhere.
 #[derive(Clone, Copy)]
 pub(crate) enum Sought {
     Found(u32),

@@ -6,6 +6,7 @@ use lib.Dec.{leb, eqb}
 use Rattle.text.specs.declared.kind.Kind.{Kind}
 use Rattle.text.specs.declared.kind.Kind.the-variants.{Letter, Digit, Hyphen, Tilde, Open, Close, Space, LineFeed, Other}
 
+-- 97 to 122 are a to z, 48 to 57 are 0 to 9, 45 is the hyphen, 126 is ~, 40 and 41 are the brackets, 32 is the space, 10 the line feed
 abbrev pub kindOf : ℕ → Kind
 kindOf b =
     cond (leb 97 b && leb b 122) Letter

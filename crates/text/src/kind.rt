@@ -25,7 +25,7 @@ pub enum Kind {
     Close,
     Space,
     LineFeed,
-    // A byte that stands in no file.
+    // A byte that stands in no flow file.
     Other,
 }
 
@@ -289,6 +289,7 @@ const KINDS: [Kind; 256] = [
     Other,
 ];
 
+// A static, so that the table is read in place, and not copied wherever it is used.
 static TABLE: [Kind; 256] = KINDS;
 
 impl Kind {

@@ -1,4 +1,4 @@
-// Lines: where one ends, and whether its bytes are all of known kinds.
+// Where a line ends.
 ghost use Prim.Native.Nat.{_<_};
 ghost use lib.ListN.{length};
 ghost use Rattle.text.specs.Lines.{EndsAt};

@@ -14,5 +14,5 @@ unfolding statuses
 returns-in-None c =
     let w = c .args .word .bits in
     let l = c .args .literal in
-    let past : 12 ≤ eventOf l = let h = c .in-None .ensures tt in let e = c .event .ensures in omega arith in
+    let past : 12 ≤ eventOf l = let h = c .in-None .ensures tt .value in let e = c .event .ensures in omega arith in
     sym (ap packed (set-past (statuses w) (eventOf l) (settles l) past) ∙ packing .0 w (c .args .word .few))

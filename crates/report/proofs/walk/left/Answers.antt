@@ -1,9 +1,8 @@
-use mathlib.Core.Path.{ap, _∙_}
+use mathlib.Core.Path.{sym, subst, _∙_}
 use mathlib.Core.List.{map}
 use denote.Ref.{now}
-use Rattle.std.specs.Of.Vec.{vec-items}
-use Rattle.algebra.specs.Of.{rulesOf}
-use Rattle.report.specs.Lines.{ruleLines}
+use Rattle.algebra.specs.Of.{rulesOf, literalsOf}
+use Rattle.report.specs.Lines.{RuleLines}
 use Rattle.report.proofs.Walking.{walked-none, walked-next, told-unknown, told-twice, told-complete}
 use Rattle.report.proofs.walk.left.Needs as need
 
@@ -30,7 +29,7 @@ loop-number-again c =
 
 pub returns : need.returns
 returns c =
-    told-complete (map now (c .args .names .now)) (rulesOf (c .args .rules .now)) (c .args .words .now) (c .loop-number .number) (c .loop-number .walk) (vec-items (c .in-Continue-answers .answers)) (c .as-str-2 .result .now) _ _
-    (c .loop-number-test .left) (c .loop-number .inv) (c .in-Continue-answers .ensures tt .judged)
-    (c .as-str-2 .ensures .value ∙ c .in-Continue-lines .ensures tt ∙ ap (ruleLines 0) (c .as-slice .ensures .value))
+    told-complete (map now (c .args .names .now)) (rulesOf (c .args .rules .now)) (c .args .words .now) (c .loop-number .number) (c .loop-number .walk) (c .as-str-2 .result .now) _ _
+    (c .loop-number-test .left) (c .loop-number .inv)
+    (subst (RuleLines (rulesOf (c .args .rules .now)) (literalsOf (c .loop-number .walk .trace))) (sym (c .as-str-2 .ensures .value)) (c .in-Continue-lines .ensures tt))
     (c .report-2 .ensures .0 ∙ c .in-Continue-push-str .ensures tt .bytes) (c .report-2 .ensures .1)
