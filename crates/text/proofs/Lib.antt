@@ -1,2 +1,3 @@
 mod Reading
+pub mod Spelling
 mod Tables

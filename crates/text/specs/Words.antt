@@ -12,6 +12,10 @@
 --                              line's start (tight) or before a closing bracket, else one space
 --     Stands tight bs t rest   bs begins with the token t, after its gap, and rest goes on
 --     Inner t                  t is no closing bracket
+--     isOpen t                 t is an opening bracket, behind which there is no gap
+--     spells tight ts          the bytes of the tokens ts, each after its gap
+--     Tokens ts                each of ts is a token
+--     One-spelling             bytes are those of at most one list of tokens
 use mathlib.Core.Path.{_≡_}
 use mathlib.Core.Bool.{Bool, true, false}
 use mathlib.Core.List.{List, [], _∷_, _++_}
@@ -86,3 +90,20 @@ Inner opens = Unit {0}
 Inner closes = ⊥
 Inner (named n) = Unit {0}
 Inner (negated n) = Unit {0}
+
+abbrev pub isOpen : Token → Bool
+isOpen opens = true
+isOpen closes = false
+isOpen (named n) = false
+isOpen (negated n) = false
+
+abbrev pub spells : Bool → List Token → List ℕ
+spells tight [] = []
+spells tight (t ∷ ts) = gap tight t ++ (spelt t ++ spells (isOpen t) ts)
+
+abbrev pub Tokens : List Token → Type 0
+Tokens [] = Unit {0}
+Tokens (t ∷ ts) = IsToken t × Tokens ts
+
+abbrev pub One-spelling : Type 0
+One-spelling = (tight : Bool) (ts us : List Token) → Tokens ts → Tokens us → spells tight ts ≡ spells tight us → ts ≡ us

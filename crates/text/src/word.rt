@@ -3,7 +3,7 @@ ghost use mathlib.Core.Path.{_≡_};
 ghost use mathlib.Core.Bool.{true, false};
 ghost use Prim.Native.Nat.{_≤_};
 ghost use lib.ListN.{length};
-ghost use Rattle.text.specs.Words.{inName};
+ghost use Rattle.text.specs.Words.{inName, One-spelling};
 ghost use Rattle.text.specs.Runs.{EndOfRun, NameAt, InnerAt, NextAt};
 use super::kind::Kind;
 
@@ -96,7 +96,8 @@ fn inner_at<'a>(text: &'a [u8], at: usize) -> Option<Next<'a>>
 // bracket and at the line's start, which are tight, there is no gap, and before a closing bracket
 // there is none; elsewhere it is one space.
 pub fn next_word<'a>(text: &'a [u8], at: usize, tight: bool) -> Option<Next<'a>>
-    ensures { λ r. ⌜ NextAt tight (now (text .entry)) at r ⌝ }
+    ensures word { λ r. ⌜ NextAt tight (now (text .entry)) at r ⌝ }
+    ensures spelling { λ _. ⌜ One-spelling ⌝ }
 {
     if tight {
         tight_word(text, at)
@@ -107,7 +108,8 @@ pub fn next_word<'a>(text: &'a [u8], at: usize, tight: bool) -> Option<Next<'a>>
 
 // The word that stands at a place, with no gap before it.
 fn tight_word<'a>(text: &'a [u8], at: usize) -> Option<Next<'a>>
-    ensures { λ r. ⌜ NextAt true (now (text .entry)) at r ⌝ }
+    ensures word { λ r. ⌜ NextAt true (now (text .entry)) at r ⌝ }
+    ensures spelling { λ _. ⌜ One-spelling ⌝ }
 {
     if at >= text.len() {
         return None;
@@ -123,7 +125,8 @@ fn tight_word<'a>(text: &'a [u8], at: usize) -> Option<Next<'a>>
 
 // The word that stands at a place, behind a space unless it is a closing bracket.
 fn loose_word<'a>(text: &'a [u8], at: usize) -> Option<Next<'a>>
-    ensures { λ r. ⌜ NextAt false (now (text .entry)) at r ⌝ }
+    ensures word { λ r. ⌜ NextAt false (now (text .entry)) at r ⌝ }
+    ensures spelling { λ _. ⌜ One-spelling ⌝ }
 {
     if at >= text.len() {
         return None;

@@ -1,0 +1,2 @@
+mod Parsing
+mod Steps
