@@ -11,6 +11,7 @@ mod tests {
     use super::digit::LastDigit;
     use super::digit::LastDigitKey;
     use algebra::Rules;
+    use forms::expr_end;
     use report::left;
     use report::refusal;
     use report::settle;
@@ -219,5 +220,48 @@ mod tests {
         clear(&mut slots);
         check_eq(told(insert(&mut slots, digit(1), 1)), 2000)?;
         check_eq(find(&slots, &digit(1)), None)
+    }
+
+    // Texts, and where the expression at their start ends; `NONE` where there is none.
+    const NONE: usize = 1000;
+
+    static EXPRESSIONS: [(&'static [u8], usize); 20] = [
+        (b"a", 1),
+        (b"a-1 b", 3),
+        (b"~plate)", 6),
+        (b"1a", 2),
+        (b"(alt a ~b)", 10),
+        (b"(seq a (all b c) d) e", 19),
+        (b"(all a b c d e f g h)", 21),
+        (b"(all a b c d e f g h i)", NONE),
+        (b"(alt a)", NONE),
+        (b"(alt)", NONE),
+        (b"(any a b)", NONE),
+        (b"(alt  a b)", NONE),
+        (b"( alt a b)", NONE),
+        (b"(alt a b )", NONE),
+        (b"(alt a b", NONE),
+        (b"~", NONE),
+        (b"~~a", NONE),
+        (b"", NONE),
+        (
+            b"(alt a (alt a (alt a (alt a (alt a (alt a (alt a (alt a a))))))))",
+            65,
+        ),
+        (
+            b"(alt a (alt a (alt a (alt a (alt a (alt a (alt a (alt a (alt a a)))))))))",
+            NONE,
+        ),
+    ];
+
+    #[test]
+    fn expressions_end_where_they_end() -> Result<(), Fail> {
+        for (text, end) in EXPRESSIONS.iter() {
+            match expr_end(text, 0, true) {
+                Ok(found) => check_eq(found, *end)?,
+                Err(_) => check_eq(NONE, *end)?,
+            }
+        }
+        Ok(())
     }
 }
