@@ -7,7 +7,8 @@
 --     ExprAt tight bs a d r   r is where the form at place a ends, with heads at most d deep
 --     GroupAt bs a d r        r is where the group ends whose opening bracket ends at place a
 --     MembersAt bs a d n r    r is where the further members of a group end, at most n, with their closing bracket
--- Each says that there is just one such thing where it is found, and none where it is not.
+-- Each says that there is just one such thing where it is found, and none where it is not, as far as the line is written
+-- by tokens to its end; where it is not, an answer whose end has no tokens behind it either is left open.
 use mathlib.Core.Path.{_≡_}
 use mathlib.Core.Bool.{Bool, true, false}
 use mathlib.Core.List.{List, _∷_}
