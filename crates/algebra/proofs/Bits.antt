@@ -1,5 +1,5 @@
 -- One bit of a word: of no bits, of one bit alone, and of two words joined.
-use Rattle.std.proofs.Common.{◌≡◌, ℕ, zero, suc, ◌+◌, ◌-◌, ◌*◌, ◌/◌, ◌%◌, ◌^◌, ◌<◌, ◌≤◌, Bool, true, false, ◌||◌, eqb, refl, ap, ◌∙◌, inl, inr, mod-lt, pow-suc, arith, pow_pos, pow-add}
+use Rattle.std.proofs.Common.{◌≡◌, ℕ, zero, suc, ◌+◌, ◌-◌, ◌/◌, ◌%◌, ◌^◌, ◌<◌, true, false, ◌||◌, eqb, refl, ap, ◌∙◌, inl, inr, mod-lt, pow-suc, arith, pow_pos, pow-add}
 use native.Mathlib.Nat.{div_self, div-eq_of_lt, mul-mod_left, zero-div}
 use lib.Bits.{bit_or, or_shr, or_mod}
 use lib.Pow.{pow-lt, shl-shr}

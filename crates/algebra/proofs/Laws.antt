@@ -1,7 +1,7 @@
 -- The law of what is left.
 use Rattle.std.proofs.Common.{◌≡◌, ℕ, Bool, true, ◌↔◌, List, [], ◌∷◌, ◌++◌, length, Some, None, fold, Option, sym, refl, ap, ◌∙◌, subst, inl, inr, append-nil, Bor}
 use mathlib.Core.List.{Memᴰ}
-use Rattle.std.specs.List.{range_with_len, flat_map}
+use Rattle.std.specs.List.{flat_map}
 use Rattle.std.specs.Option.{option_map}
 use Rattle.std.specs.Slice.{IsGetResult}
 use Rattle.std.proofs.lemmas.Option.{slice_get-get_or, slice_get_past}
@@ -11,14 +11,14 @@ use Rattle.algebra.specs.declared.expr.Atom.TheVariants.{Lit, Yes, No}
 use Rattle.algebra.specs.declared.expr.Head.TheVariants.{Alt, All, Seq}
 use Rattle.algebra.specs.declared.expr.Expr.{Expr}
 use Rattle.algebra.specs.declared.expr.Expr.TheVariants.{Leaf, Binary'}
-use Rattle.algebra.specs.Literals.{event_of, Once, IsTrace}
+use Rattle.algebra.specs.Literals.{Once, IsTrace}
 use Rattle.algebra.specs.Expressions.{leaves, Meets}
-use Rattle.algebra.specs.Left.{fresh, fulfilled, fresh_all, applied_all}
+use Rattle.algebra.specs.Left.{fulfilled, fresh_all, applied_all}
 use Rattle.algebra.specs.Laws.{LeftOfOne, LeftOfRules}
 use Rattle.algebra.specs.Rules.{NumberedOn, RuleAt}
 use Rattle.algebra.proofs.Members.{once_counting, mem_get_or}
 use Rattle.algebra.proofs.Trees.{Tree, MeetsT, done_t, apply_t, nil_done, done_meets, left_to, left_from}
-use Rattle.algebra.proofs.Views.{view, tree, done_view, view_fresh_all, view_all}
+use Rattle.algebra.proofs.Views.{tree, done_view, view_fresh_all, view_all}
 
 -- what an expression's tree meets is what the expression meets
 tree_to : (x : Expr) (w : List Literal) → MeetsT (tree x) w → Meets x w

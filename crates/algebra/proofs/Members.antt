@@ -1,11 +1,12 @@
 -- Membership, and lists in which no number stands twice.
-use Rattle.std.proofs.Common.{◌≡◌, ℕ, zero, suc, ◌+◌, ◌<◌, ◌≤◌, Bool, true, false, not, ◌&&◌, T, eqb, ◌⊎◌, ◌↔◌, List, [], ◌∷◌, ◌++◌, map, length, get_or, drop, MatchBool, sym, refl, ap, ◌∙◌, subst, inl, inr, ⊎_elim, arith}
+use Rattle.std.proofs.Common.{◌≡◌, ℕ, zero, suc, ◌+◌, ◌<◌, ◌≤◌, Bool, true, false, not, eqb, ◌⊎◌, ◌↔◌, List, [], ◌∷◌, ◌++◌, map, length, get_or, drop, MatchBool, sym, refl, ap, ◌∙◌, subst, inl, inr, ⊎_elim, arith}
 use mathlib.Core.Bool.{false≢true}
 use mathlib.Core.List.Memᴰ
 use mathlib.Core.List.{Memᴰ}
-use Rattle.std.specs.List.{range_with_len, list_all}
+use Rattle.std.specs.List.{range_with_len, AllByRecursion, IsDistinct}
 use Rattle.std.proofs.lemmas.List.{map-append, drop_more, drop_all}
 use Rattle.std.proofs.lemmas.Bool.{cases_Bool, eqb-true, eq-eqb}
+use Rattle.std.proofs.lemmas.Map.Keys.{IsDistinct-head, IsDistinct-tail, IsDistinct-cons}
 use Rattle.algebra.specs.declared.literal.Literal.{Literal}
 use Rattle.algebra.specs.Literals.{event_of, Once, IsTrace}
 
@@ -13,38 +14,29 @@ use Rattle.algebra.specs.Literals.{event_of, Once, IsTrace}
 abbrev pub Out : {X : Type 0} → X → List X → Type 0
 Out n ns = Memᴰ n ns → ⊥
 
-both_passed : (a b : Bool) → T (a && b) → T a × T b
-both_passed true b h = (tt, h)
-both_passed false b h = absurd h
+apart : (n m : ℕ) → eqb n m ≡ false → n ≡ m → ⊥
+apart n m h e = false≢true (sym h ∙ eq-eqb n m e)
 
-pass_both : (a b : Bool) → T a → T b → T (a && b)
-pass_both true b h k = k
-pass_both false b h k = absurd h
+apart_test : (n m : ℕ) → (n ≡ m → ⊥) → eqb n m ≡ false
+apart_test n m f = elim (cases_Bool (eqb n m)) [ inl e ↦ absurd (f (eqb-true n m e)) | inr e ↦ e ]
 
-apart : (n m : ℕ) → T (not (eqb n m)) → n ≡ m → ⊥
-apart n m h e = subst (λ b. T (not b)) (eq-eqb n m e) h
-
-apart_test : (n m : ℕ) → (n ≡ m → ⊥) → T (not (eqb n m))
-apart_test n m f =
-    elim (cases_Bool (eqb n m)) [ inl e ↦ absurd (f (eqb-true n m e)) | inr e ↦ subst (λ b. T (not b)) (sym e) tt ]
-
-out_from_test : (n : ℕ) (ms : List ℕ) → T (list_all (λ m. not (eqb n m)) ms) → Out n ms
+out_from_test : (n : ℕ) (ms : List ℕ) → AllByRecursion (λ m. eqb n m ≡ false) ms → Out n ms
 out_from_test n [] h k = Memᴰ.not-nil k
-out_from_test n (m ∷ ms) h k =
-    let p = both_passed (not (eqb n m)) (list_all (λ m. not (eqb n m)) ms) h in
-    ⊎_elim (apart n m p.0) (out_from_test n ms p.1) (Memᴰ.cases_cons k)
+out_from_test n (m ∷ ms) h k = ⊎_elim (apart n m h.0) (out_from_test n ms h.1) (Memᴰ.cases_cons k)
 
-test_from_out : (n : ℕ) (ms : List ℕ) → Out n ms → T (list_all (λ m. not (eqb n m)) ms)
+test_from_out : (n : ℕ) (ms : List ℕ) → Out n ms → AllByRecursion (λ m. eqb n m ≡ false) ms
 test_from_out n [] f = tt
-test_from_out n (m ∷ ms) f =
-    pass_both (not (eqb n m)) (list_all (λ m. not (eqb n m)) ms) (apart_test n m (λ e. f (Memᴰ.head e)))
-    (test_from_out n ms (λ k. f (Memᴰ.tail k)))
+test_from_out n (m ∷ ms) f = (apart_test n m (λ e. f (Memᴰ.head e)), test_from_out n ms (λ k. f (Memᴰ.tail k)))
 
 pub once_head : (n : ℕ) (ns : List ℕ) → Once (n ∷ ns) → Out n ns × Once ns
-once_head n ns h = let p = both_passed (list_all (λ m. not (eqb n m)) ns) _ h in (out_from_test n ns p.0, p.1)
+once_head n ns h = (out_from_test n ns (IsDistinct-head eqb n ns h), IsDistinct-tail eqb n ns h)
 
 pub once_cons : (n : ℕ) (ns : List ℕ) → Out n ns → Once ns → Once (n ∷ ns)
-once_cons n ns f h = pass_both (list_all (λ m. not (eqb n m)) ns) _ (test_from_out n ns f) h
+once_cons n ns f h = IsDistinct-cons eqb n ns (test_from_out n ns f) h
+
+pub once_nil : Once []
+unfolding IsDistinct
+once_nil = tt
 
 -- two lists in which, together, no number stands twice
 pub record Parted (ns ms : List ℕ) : Type 0 where
@@ -53,7 +45,7 @@ pub record Parted (ns ms : List ℕ) : Type 0 where
   pub across : (j : ℕ) → Memᴰ j ns → Out j ms
 
 pub parted : (ns ms : List ℕ) → Once (ns ++ ms) → Parted ns ms
-parted [] ms h = record { left = tt; right = h; across = λ j k. absurd (Memᴰ.not-nil k) }
+parted [] ms h = record { left = once_nil; right = h; across = λ j k. absurd (Memᴰ.not-nil k) }
 parted (n ∷ ns) ms h =
     let p = once_head n (ns ++ ms) h in
     let q = parted ns ms p.1 in
@@ -64,7 +56,7 @@ parted (n ∷ ns) ms h =
     }
 
 pub once_push : (ns : List ℕ) (n : ℕ) → Once ns → Out n ns → Once (ns ++ (n ∷ []))
-once_push [] n h f = tt
+once_push [] n h f = once_cons n [] f h
 once_push (m ∷ ns) n h f =
     let p = once_head m ns h in
     once_cons m (ns ++ (n ∷ []))
@@ -81,7 +73,7 @@ counting_from a (suc n) j k =
     ⊎_elim (λ (e : j ≡ a). omega arith) (λ l. omega (arith, counting_from (a + 1) n j l)) (Memᴰ.cases_cons k)
 
 pub once_counting : (a n : ℕ) → Once (range_with_len a n)
-once_counting a zero = tt
+once_counting a zero = once_nil
 once_counting a (suc n) =
     once_cons a (range_with_len (a + 1) n) (λ k. let h = counting_from (a + 1) n a k in omega arith) (once_counting (a + 1) n)
 

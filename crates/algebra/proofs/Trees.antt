@@ -3,7 +3,7 @@ use Rattle.std.proofs.Common.{◌≡◌, ℕ, Bool, true, false, cond, ◌&&◌,
 use mathlib.Core.Bool.{false≢true}
 use mathlib.Core.List.Memᴰ
 use mathlib.Core.List.{Memᴰ}
-use Rattle.std.proofs.lemmas.Bool.{or_left, or_right, and_from, or_cases, and_parts, cond_both, cond-true, eqb-true, eqb-false, eq-eqb, both_ways}
+use Rattle.std.proofs.lemmas.Bool.{or_left, or_right, and_from, or_cases, and_parts, cond_both, eqb-true, eq-eqb, both_ways}
 use Rattle.algebra.specs.declared.literal.Literal.{Literal}
 use Rattle.algebra.specs.declared.literal.Literal.TheVariants.{Happened, Never}
 use Rattle.algebra.specs.declared.expr.Head.{Head}

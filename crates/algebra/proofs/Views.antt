@@ -1,9 +1,8 @@
 -- An expression under marks, seen as a tree, and what the marks' operations do to that tree.
-use Rattle.std.proofs.Common.{◌≡◌, ℕ, ◌^◌, Bool, true, false, cond, not, ◌&&◌, ◌||◌, eqb, ◌⊎◌, List, [], ◌∷◌, ◌++◌, fold, sym, refl, ap, ◌∙◌, subst, inl, inr, ⊎_elim, arith}
+use Rattle.std.proofs.Common.{◌≡◌, ℕ, Bool, true, false, cond, not, ◌&&◌, ◌||◌, eqb, List, [], ◌∷◌, fold, sym, refl, ap, ◌∙◌, subst, ⊎_elim, arith}
 use mathlib.Core.Bool.{false≢true}
 use mathlib.Core.List.Memᴰ
 use mathlib.Core.List.{Memᴰ}
-use lib.Bits.{bit_or}
 use Rattle.std.specs.List.{flat_map}
 use Rattle.std.proofs.lemmas.Bool.{cond_both, cond-true, cond-false}
 use Rattle.algebra.specs.declared.literal.Literal.{Literal}
@@ -14,11 +13,11 @@ use Rattle.algebra.specs.declared.expr.Head.TheVariants.{Alt, All, Seq}
 use Rattle.algebra.specs.declared.expr.Expr.{Expr}
 use Rattle.algebra.specs.declared.expr.Expr.TheVariants.{Leaf, Binary'}
 use Rattle.algebra.specs.Literals.{event_of, same, Once}
-use Rattle.algebra.specs.Marks.{has_bit, is_met, is_open, none, met_at, struck_at, union}
+use Rattle.algebra.specs.Marks.{has_bit, is_open, none, met_at, struck_at, union}
 use Rattle.algebra.specs.Expressions.{leaves}
 use Rattle.algebra.specs.Left.{fresh, fulfilled, strikes, gains, applied, fresh_all, applied_all}
 use Rattle.algebra.proofs.Bits.{bit_or_lem, bit_none, bit_here, bit_other}
-use Rattle.algebra.proofs.Members.{Out, Parted, parted}
+use Rattle.algebra.proofs.Members.{Out, parted}
 use Rattle.algebra.proofs.Trees.{Tree, met, struck, wait, node, done_t, strike_t, apply_t}
 
 -- whether a leaf is met, and whether it is struck

@@ -1,7 +1,7 @@
 -- Expressions, and what a list of literals meets. Assumes nothing.
---     leaves x         the numbers of the leaves of x, in the order written
---     events_in x       the events of the literals of x, in the order written
---     Meets x w        w meets x
+--     leaves x      the numbers of the leaves of x, in the order written
+--     events_in x   the events of the literals of x, in the order written
+--     Meets x w     w meets x
 use Rattle.std.specs.Prelude.{◌≡◌, ℕ, ◌⊎◌, List, [], ◌∷◌, ◌++◌}
 use mathlib.Core.List.{Memᴰ}
 use Rattle.algebra.specs.declared.literal.Literal.{Literal}

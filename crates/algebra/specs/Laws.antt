@@ -1,8 +1,8 @@
 -- The law of what is left: after any trace, taken in two parts, a rule is fulfilled exactly if the whole trace meets it.
 -- Assumes nothing.
---     LeftOfOne           the law for one expression, whose leaves have distinct numbers
---     LeftOfRules         the law for each rule of a list whose rules share one pair of marks, and in which no leaf number stands twice;
---                           `LeftOfOne` is its case of a list of one
+--     LeftOfOne     the law for one expression, whose leaves have distinct numbers
+--     LeftOfRules   the law for each rule of a list whose rules share one pair of marks, and in which no leaf number stands twice;
+--                   `LeftOfOne` is its case of a list of one
 use Rattle.std.specs.Prelude.{◌≡◌, true, ◌↔◌, List, ◌++◌, fold}
 use mathlib.Core.List.{Memᴰ}
 use Rattle.std.specs.List.{flat_map}

@@ -1,12 +1,12 @@
 -- What is left of expressions as literals are applied: the marks on their leaves. Assumes nothing.
---     fresh x               the marks of x before any literal: `yes` is met, `no` is struck
---     fulfilled x m         x is fulfilled under the marks m
---     strikes x e m         each leaf of the event e in x that is open in m, under either sign, as struck
---     gains x l m           the leaves of x that the literal l meets and those that it strikes, where m are the marks before it
---     applied x m l         the marks m after l is applied to x
---     fresh_all xs           the marks of a list of rules before any literal
---     applied_all xs m l     the marks m after l is applied to each of the rules xs; each reads m
-use Rattle.std.specs.Prelude.{ℕ, Bool, true, cond, ◌&&◌, ◌||◌, List, fold, ◌==◌}
+--     fresh x              the marks of x before any literal: `yes` is met, `no` is struck
+--     fulfilled x m        x is fulfilled under the marks m
+--     strikes x e m        each leaf of the event e in x that is open in m, under either sign, as struck
+--     gains x l m          the leaves of x that the literal l meets and those that it strikes, where m are the marks before it
+--     applied x m l        the marks m after l is applied to x
+--     fresh_all xs         the marks of a list of rules before any literal
+--     applied_all xs m l   the marks m after l is applied to each of the rules xs; each reads m
+use Rattle.std.specs.Prelude.{ℕ, Bool, cond, ◌&&◌, ◌||◌, List, fold, ◌==◌}
 use Rattle.algebra.specs.declared.literal.Literal.{Literal}
 use Rattle.algebra.specs.declared.marks.Marks.{Marks}
 use Rattle.algebra.specs.declared.expr.Atom.TheVariants.{Lit, Yes, No}

@@ -1,12 +1,12 @@
 -- Literals, and lists of them that are traces. Assumes nothing.
---     event_of l        the event that the literal l speaks of
---     same k l         whether k and l are one literal
---     Once ns          no number stands twice in ns
---     IsTrace w        w is a trace: no event stands twice in it, under either sign
---     Taken w l v r    what `push` says: asked to add the literal l to the trace w, it answers r and leaves v
-use Rattle.std.specs.Prelude.{◌≡◌, ℕ, Bool, false, T, List, [], ◌∷◌, ◌++◌, map, Ok, Err, Result, ◌==◌, nat_eq}
+--     event_of l      the event that the literal l speaks of
+--     same k l        whether k and l are one literal
+--     Once ns         no number stands twice in ns
+--     IsTrace w       w is a trace: no event stands twice in it, under either sign
+--     Taken w l v r   what `push` says: asked to add the literal l to the trace w, it answers r and leaves v
+use Rattle.std.specs.Prelude.{◌≡◌, ℕ, Bool, false, List, [], ◌∷◌, ◌++◌, map, Ok, Err, Result, ◌==◌, nat_eq}
 use mathlib.Core.List.{Memᴰ}
-use Rattle.std.specs.Map.Invariant.{is-distinct}
+use Rattle.std.specs.List.{IsDistinct}
 use Rattle.algebra.specs.declared.literal.Literal.{Literal}
 use Rattle.algebra.specs.declared.literal.Literal.TheVariants.{Happened, Never}
 use Rattle.algebra.specs.declared.trace.TraceError.{TraceError}
@@ -23,7 +23,7 @@ same (Never d) (Happened e) = false
 same (Never d) (Never e) = d == e
 
 abbrev pub Once : List ℕ → Type 0
-Once ns = T (is-distinct nat_eq ns)
+Once ns = IsDistinct nat_eq ns
 
 abbrev pub IsTrace : List Literal → Type 0
 IsTrace w = Once (map event_of w)

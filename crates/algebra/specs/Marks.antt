@@ -1,10 +1,10 @@
 -- Marks on leaves, in two words of 64 bits. Assumes nothing.
---     has_bit w i            bit i of the word w is set
---     is_met m i             leaf i is met in m
---     is_open m i            leaf i is neither met nor struck in m
---     none                  no leaf is met or struck
+--     has_bit w i             bit i of the word w is set
+--     is_met m i              leaf i is met in m
+--     is_open m i             leaf i is neither met nor struck in m
+--     none                    no leaf is met or struck
 --     met_at i, struck_at i   leaf i alone is met, or struck
---     union m n             what is met in m or in n, and what is struck in m or in n
+--     union m n               what is met in m or in n, and what is struck in m or in n
 use Rattle.std.specs.Prelude.{ℕ, ◌/◌, ◌%◌, ◌^◌, Bool, not, ◌&&◌, ◌==◌, bit_or}
 use Rattle.algebra.specs.declared.marks.Marks.{Marks}
 

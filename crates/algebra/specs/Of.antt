@@ -1,6 +1,6 @@
 -- What the values of this crate hold, for the contracts of other crates. Assumes nothing.
---     rules_of r           the rules of a list of rules, in their order
---     literals_of t        the literals of a trace, in their order
+--     rules_of r      the rules of a list of rules, in their order
+--     literals_of t   the literals of a trace, in their order
 use Rattle.std.specs.Prelude.{List, vec_items}
 use Rattle.algebra.specs.declared.literal.Literal.{Literal}
 use Rattle.algebra.specs.declared.expr.Expr.{Expr}

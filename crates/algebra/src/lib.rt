@@ -1,4 +1,6 @@
 // Events, traces and rules: what a trace meets, and what is left of a rule after part of a trace.
+#![tactic(auto)]
+
 pub mod expr;
 pub mod leaf;
 pub mod literal;

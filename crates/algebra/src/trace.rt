@@ -1,6 +1,7 @@
 // Traces.
 ghost use Rattle.std.specs.Prelude.{◌≡◌, ◌≤◌, true, ◌↔◌, [], ◌∷◌, ◌++◌, map, IfErr, vec_len, vec_capacity, MatchBool};
 ghost use mathlib.Core.List.{Memᴰ};
+ghost use Rattle.std.proofs.Props.{props};
 ghost use Rattle.algebra.specs.Literals.{event_of, IsTrace, Taken};
 
 use super::literal::Literal;
@@ -10,7 +11,7 @@ use std::alloc::Global;
 #[derive(Drop)]
 pub struct Trace {
     literals: Vec<Literal>,
-    ghost once: { IsTrace literals.items },
+    ghost once: { IsTrace literals.items } by { Prim.hlevel props },
 }
 
 // Why a trace does not take a literal.
@@ -23,6 +24,7 @@ pub enum TraceError {
 }
 
 impl Trace {
+    #[tactic(auto, using(crate::proofs::Members::once_nil))]
     pub fn new(heap: Global) -> Trace
         ensures { result.literals.items ≡ [] }
     {

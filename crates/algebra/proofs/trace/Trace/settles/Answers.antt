@@ -1,4 +1,4 @@
-use Rattle.std.proofs.Common.{map, get_or, sym, refl, ap, ◌∙◌, subst}
+use Rattle.std.proofs.Common.{map, sym, refl, ◌∙◌, subst}
 use mathlib.Core.Bool.{false≢true}
 use mathlib.Core.List.{Memᴰ}
 use Rattle.algebra.specs.Literals.{event_of}

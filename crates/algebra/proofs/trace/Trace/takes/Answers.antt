@@ -1,6 +1,4 @@
-use Rattle.std.proofs.Common.{map, vec_items, sym, subst}
-use mathlib.Core.List.{Memᴰ}
-use Rattle.algebra.specs.Literals.{event_of}
+use Rattle.std.proofs.Common.{vec_items}
 use Rattle.algebra.proofs.Members.{takes_from_settles}
 use Rattle.algebra.proofs.trace.Trace.takes.Goals as goal
 
