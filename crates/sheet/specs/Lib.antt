@@ -1,3 +1,4 @@
 pub mod Of
+pub mod Sameness
 pub mod Sheets
 pub mod Statuses

@@ -1,5 +1,5 @@
 -- What the values of this crate hold, for the contracts of other crates. Assumes nothing.
---     bits_of w            the number that a status word is
+--     bits_of w           the number that a status word is
 use Rattle.std.specs.Prelude.{ℕ}
 use Rattle.sheet.specs.declared.word.StatusWord.{StatusWord}
 

@@ -1,6 +1,6 @@
 -- Statuses of events, and the status word. Assumes nothing.
 --     number s         the number of a status: open 0, waiting 1, happened 2, never 3
---     status_of n       the status of a number; of one above 3, never
+--     status_of n      the status of a number; of one above 3, never
 --     packed ss        the statuses ss in one number, the first in the lowest two bits
 --     unpacked n w     the statuses that the lowest n pairs of bits of w hold
 --     statuses w       the statuses of events 0 to 11 in the status word w

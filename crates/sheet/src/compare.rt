@@ -1,17 +1,19 @@
 // Comparing what two sheets tell.
 ghost use Rattle.std.specs.Prelude.{◌≡◌, true, ◌↔◌, Decides};
-ghost use Rattle.std.specs.Cmp.Rules.{comparing};
-ghost use Rattle.std.proofs.Common.{rules};
+ghost use Rattle.sheet.specs.Sameness.{same_grade, same_event, same_grade-laws, same_event-laws};
 
 use super::grade::{Event, Grade};
 use super::sheet::Sheet;
 
 impl PartialEq for Grade {
-    ghost equals = { λ a b r. Decides r (a ≡ b) };
+    ghost eq = { same_grade };
 
-    ghost laws = { Prim.search (comparing, rules) };
+    ghost laws = { same_grade-laws };
 
-    fn eq(&self, other: &Grade) -> bool {
+    fn eq(&self, other: &Grade) -> bool
+        ensures answer { result ≡ same_grade self.now other.now }
+        ensures decides { Decides result (self.now ≡ other.now) }
+    {
         match (*self, *other) {
             (Grade::Flexible, Grade::Flexible) => true,
             (Grade::Inevitable, Grade::Inevitable) => true,
@@ -22,11 +24,14 @@ impl PartialEq for Grade {
 }
 
 impl PartialEq for Event {
-    ghost equals = { λ a b r. Decides r (a ≡ b) };
+    ghost eq = { same_event };
 
-    ghost laws = { Prim.search (comparing, rules) };
+    ghost laws = { same_event-laws };
 
-    fn eq(&self, other: &Event) -> bool {
+    fn eq(&self, other: &Event) -> bool
+        ensures answer { result ≡ same_event self.now other.now }
+        ensures decides { Decides result (self.now ≡ other.now) }
+    {
         self.grade == other.grade && self.forcible == other.forcible
     }
 }

@@ -1,5 +1,7 @@
 // What is told of events: their grades and statuses, sheets of events, and the statuses of all events
 // in one number.
+#![tactic(auto)]
+
 pub mod compare;
 pub mod grade;
 pub mod sheet;

@@ -2,4 +2,4 @@ use Rattle.sheet.proofs.Words.{nth_asked}
 use Rattle.sheet.proofs.word.StatusWord.status.Goals as goal
 
 pub returns : goal.returns
-returns c = nth_asked c.args.self.bits c.args.event c.from-number.result c.requires c.from-number.ensures
+returns c = nth_asked c.args.self.bits c.args.event c.from_number.result c.requires c.from_number.ensures
