@@ -1,5 +1,5 @@
 -- Searches and writes in a map of slots.
-use Rattle.std.proofs.Common.{◌≡◌, ℕ, zero, suc, ◌+◌, ◌%◌, ◌<◌, ◌≤◌, Bool, true, false, cond, ◌⊎◌, List, [], ◌∷◌, length, get_or, set, replicate, Some, None, Option, sym, refl, ap, ◌∙◌, subst, inl, inr, ⊎_elim, arith}
+use Rattle.std.proofs.Common.{◌≡◌, ℕ, zero, suc, ◌+◌, ◌%◌, ◌<◌, ◌≤◌, Bool, true, false, cond, List, [], ◌∷◌, length, get_or, set, replicate, Some, None, sym, refl, ap, ◌∙◌, subst, ⊎_elim, arith}
 use native.Mathlib.Nat.{suc_inj}
 use Rattle.std.proofs.lemmas.Bool.{cases_lt, cases_eq, cases_Bool, both_ways, cond-true, cond-false}
 use Rattle.std.proofs.lemmas.List.{get_or-set_same, get_or-set_other, get_or_past, length-set}
@@ -7,7 +7,7 @@ use Rattle.slots.specs.declared.slot.Slot.{Slot}
 use Rattle.slots.specs.declared.slot.Slot.TheVariants.{Free, Taken}
 use Rattle.slots.specs.declared.slot.Sought.{Sought}
 use Rattle.slots.specs.declared.slot.Sought.TheVariants.{Found, Room, Full}
-use Rattle.slots.specs.Maps.{at, is_free, Holds, Filled, Way, Valid, Cleared, Inserts, taken}
+use Rattle.slots.specs.Maps.{at, is_free, Holds, Filled, Way, Valid, Cleared, taken}
 use Rattle.slots.specs.Search.{Lacks, Scans, Seeks}
 
 pub between_more : (P : ℕ → Type 0) (a i : ℕ) → ((j : ℕ) → a ≤ j → j < i → P j) → P i → (j : ℕ) → a ≤ j → j < i + 1 → P j

@@ -1,7 +1,7 @@
 -- The map that slots hold. Assumes nothing.
 --     at same s q              what the map answers for the key q: the value of the entry that is the same as q
 --     taken s                  how many slots are taken
---     is_free x                 the slot x is free
+--     is_free x                the slot x is free
 --     Holds s i k v            slot i is taken by the key k with the value v
 --     Filled s a b             the slots from a on, before b, are taken
 --     Way s h i                the probe path from slot h to slot i, around the end, has no free slot before i

@@ -8,7 +8,7 @@ use super::slot::{Inserted, Slot, Sought};
 
 // Makes every slot free, whatever the memory held.
 pub fn clear<K: Key + Drop>(slots: &mut [Slot<K>])
-    ensures { Cleared same hash slots.old slots.new }
+    ensures { Cleared K.same K.hash slots.old slots.new }
 {
     for i in 0..slots.len() {
         slots[i] = Slot::Free;
@@ -17,8 +17,8 @@ pub fn clear<K: Key + Drop>(slots: &mut [Slot<K>])
 
 // The value of a key; absent if no key that is the same was inserted.
 pub fn find<K: Key>(slots: &[Slot<K>], key: &K) -> Option<u32>
-    requires { Valid same hash slots.now }
-    ensures { result ≡ at same slots.now key.now }
+    requires { Valid K.same K.hash slots.now }
+    ensures { result ≡ at K.same slots.now key.now }
 {
     match seek(slots, key) {
         Sought::Found(value) => Some(value),
@@ -28,9 +28,9 @@ pub fn find<K: Key>(slots: &[Slot<K>], key: &K) -> Option<u32>
 
 // Inserts a key with its value if it is new and a slot is free; otherwise the slots stay as they are.
 pub fn insert<K: Key + Drop>(slots: &mut [Slot<K>], key: K, value: u32) -> Inserted
-    requires { Valid same hash slots.old }
-    ensures inserts { Inserts same slots.old slots.new key value result }
-    ensures valid { Valid same hash slots.new }
+    requires { Valid K.same K.hash slots.old }
+    ensures inserts { Inserts K.same slots.old slots.new key value result }
+    ensures valid { Valid K.same K.hash slots.new }
 {
     match seek(slots, &key) {
         Sought::Room(place) => {
@@ -45,8 +45,8 @@ pub fn insert<K: Key + Drop>(slots: &mut [Slot<K>], key: K, value: u32) -> Inser
 // The first slot from the key's home on, around the end, that is free or has the key. The home is the
 // hash modulo the number of slots.
 fn seek<K: Key>(slots: &[Slot<K>], key: &K) -> Sought
-    requires { Valid same hash slots.now }
-    ensures { Seeks same hash slots.now key.now result }
+    requires { Valid K.same K.hash slots.now }
+    ensures { Seeks K.same K.hash slots.now key.now result }
 {
     let n = slots.len();
     if n == 0 {
@@ -62,7 +62,7 @@ fn seek<K: Key>(slots: &[Slot<K>], key: &K) -> Sought
 // The first slot from `from` to `to` that is free or has the key.
 fn scan<K: Key>(slots: &[Slot<K>], key: &K, from: usize, to: usize) -> Sought
     requires { to ≤ length slots.now }
-    ensures { Scans same slots.now key.now from to result }
+    ensures { Scans K.same slots.now key.now from to result }
 {
     for i in from..to {
         match &slots[i] {

@@ -1,5 +1,4 @@
-use Rattle.std.proofs.Common.{◌≡◌, ℕ, ◌<◌, ◌≢◌, length, get_or, arith, get_or-set_other, get_or-set_same, below_more}
-use Rattle.slots.specs.declared.slot.Slot.TheVariants.{Free}
+use Rattle.std.proofs.Common.{◌<◌, ◌≢◌, length, arith, get_or-set_other, get_or-set_same, below_more}
 use Rattle.slots.proofs.Tables.{cleared}
 use Rattle.slots.proofs.map.clear.Goals as goal
 

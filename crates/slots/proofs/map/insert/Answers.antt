@@ -1,4 +1,4 @@
-use Rattle.std.proofs.Common.{refl, length-set, rules}
+use Rattle.std.proofs.Common.{refl, length-set}
 use Rattle.slots.specs.declared.slot.Slot.TheVariants.{Taken}
 use Rattle.slots.proofs.Tables.{at_set, valid_set, taken_set, taken_all}
 use Rattle.slots.proofs.map.insert.Goals as goal

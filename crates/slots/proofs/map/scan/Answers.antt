@@ -1,6 +1,6 @@
-use Rattle.std.proofs.Common.{◌≡◌, get_or, sym, ◌∙◌, subst, arith}
+use Rattle.std.proofs.Common.{◌≡◌, get_or, sym, ◌∙◌, arith}
 use Rattle.std.proofs.lemmas.List.{get_or_read}
-use Rattle.slots.specs.declared.slot.Slot.TheVariants.{Free, Taken}
+use Rattle.slots.specs.declared.slot.Slot.TheVariants.{Free}
 use Rattle.slots.specs.Maps.{is_free, Holds}
 use Rattle.slots.proofs.Tables.{between_more, taken_filled}
 use Rattle.slots.proofs.map.scan.Goals as goal

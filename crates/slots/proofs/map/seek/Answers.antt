@@ -1,4 +1,4 @@
-use Rattle.std.proofs.Common.{◌≡◌, ℕ, ◌%◌, ◌<◌, ◌≤◌, length, sym, subst, mod-lt, arith}
+use Rattle.std.proofs.Common.{ℕ, ◌%◌, ◌<◌, length, subst, mod-lt, arith}
 use Rattle.slots.specs.Maps.{Filled}
 use Rattle.slots.specs.Search.{Scans, Lacks}
 use Rattle.slots.proofs.Tables.{at_none, first_search, second_search}
@@ -20,12 +20,12 @@ returns-in-Full g c =
     (let p : 0 < length s = omega arith in let t = mod-lt (k.hash q) p in omega arith) first.0 first.1
     (subst (λ (d : ℕ). Scans k.same s q 0 (d % length s) c.scan-in-Full.result) c.hash.ensures c.scan-in-Full.ensures)
 
-pub returns-in-default : goal.returns-in-default
-returns-in-default g c =
+pub returns-in_default : goal.returns-in_default
+returns-in_default g c =
     let s = c.args.slots.now in
     let q = c.args.key.now in
     let k = g.K.Key in
     let m = g.K.Key.laws in
     first_search k.same m.symmetric m.transitive k.hash m.shared s q c.requires c.scan.result
     (subst (λ (d : ℕ). Scans k.same s q (d % length s) (length s) c.scan.result) c.hash.ensures c.scan.ensures)
-    c.in-default.not-Full
+    c.in_default.not-Full
