@@ -7,7 +7,7 @@ use Rattle.std.proofs.lemmas.Bool.Decides.{nat_tests}
 use Rattle.text.specs.declared.word.Next.{Next}
 use Rattle.text.specs.declared.kind.Kind.TheVariants as kind
 use Rattle.text.specs.Kinds.{kind_of}
-use Rattle.text.specs.Words.{name_byte, Token, token_of, opens, closes, named, negated, spelt, Run, IsToken, Broken, Ends, gap, Stands, Inner}
+use Rattle.text.specs.Words.{name_byte, Token, token_of, opens, closes, named, negated, spelt, Run, IsToken, Broken, gap, Stands, Inner}
 use Rattle.text.specs.Runs.{EndOfRun, NameAt, InnerAt, NextAt}
 
 -- the byte of a kind that has one byte

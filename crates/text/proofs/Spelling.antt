@@ -1,7 +1,7 @@
 -- The bytes of a line's words determine the words.
 use Rattle.std.proofs.Common.{◌≡◌, ℕ, suc, ◌<◌, Bool, true, false, List, [], ◌∷◌, ◌++◌, length, get_or, sym, refl, ap, ◌∙◌, subst, arith}
 use mathlib.Core.Bool.{false≢true}
-use Rattle.text.specs.Words.{name_byte, Token, opens, closes, named, negated, spelt, Run, IsToken, Broken, Ends, gap, is_open, spells, Tokens, OneSpelling}
+use Rattle.text.specs.Words.{name_byte, Token, opens, closes, named, negated, spelt, Run, IsToken, Broken, Ends, gap, is_open, spells, OneSpelling}
 
 head_same : {x y : ℕ} {xs ys : List ℕ} → x ∷ xs ≡ y ∷ ys → x ≡ y
 head_same e = cc

@@ -1,4 +1,6 @@
 // Bytes, lines and words of a text file: the byte reader.
+#![tactic(auto)]
+
 pub mod kind;
 pub mod line;
 pub mod word;

@@ -18,6 +18,6 @@ returns-in-Some c =
     let (low, high, run, is, broken) = c.in-Some.ensures in
     (omega arith, high, tt, run, inner_tilde c.args.text.now c.args.at c.if-at-text.false (sym c.in-Tilde.ensures) ∙ ap (λ z. 126 ∷ z) is, broken)
 
-pub returns-in-None-name-at : goal.returns-in-None-name-at
-returns-in-None-name-at c =
-    name_none c.args.text.now c.args.at c.if-at-text.false (λ e. c.in-default.not-Open (c.of.ensures ∙ e)) (λ e. c.in-default.not-Tilde (c.of.ensures ∙ e)) c.in-None-name-at.ensures
+pub returns-in-None-name_at : goal.returns-in-None-name_at
+returns-in-None-name_at c =
+    name_none c.args.text.now c.args.at c.if-at-text.false (λ e. c.in_default.not-Open (c.of.ensures ∙ e)) (λ e. c.in_default.not-Tilde (c.of.ensures ∙ e)) c.in-None-name_at.ensures

@@ -14,7 +14,7 @@ returns-in-Close c = record {
 }
 
 pub returns-in-Space : goal.returns-in-Space
-returns-in-Space c = record { word = next_gapped c.args.text.now c.args.at c.if-at-text.false (sym c.in-Space.ensures) c.inner-at.result c.inner-at.ensures; spelling = one_spelling }
+returns-in-Space c = record { word = next_gapped c.args.text.now c.args.at c.if-at-text.false (sym c.in-Space.ensures) c.inner_at.result c.inner_at.ensures; spelling = one_spelling }
 
-pub returns-in-default : goal.returns-in-default
-returns-in-default c = record { word = loose_other c.args.text.now c.args.at c.if-at-text.false (λ e. c.in-default.not-Close (c.of.ensures ∙ e)) (λ e. c.in-default.not-Space (c.of.ensures ∙ e)); spelling = one_spelling }
+pub returns-in_default : goal.returns-in_default
+returns-in_default c = record { word = loose_other c.args.text.now c.args.at c.if-at-text.false (λ e. c.in_default.not-Close (c.of.ensures ∙ e)) (λ e. c.in_default.not-Space (c.of.ensures ∙ e)); spelling = one_spelling }

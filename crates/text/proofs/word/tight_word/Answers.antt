@@ -13,5 +13,5 @@ returns-in-Close c = record {
   spelling = one_spelling;
 }
 
-pub returns-in-default : goal.returns-in-default
-returns-in-default c = record { word = next_tight c.args.text.now c.args.at c.if-at-text.false (λ e. c.in-default.not-Close (c.of.ensures ∙ e)) c.inner-at.result c.inner-at.ensures; spelling = one_spelling }
+pub returns-in_default : goal.returns-in_default
+returns-in_default c = record { word = next_tight c.args.text.now c.args.at c.if-at-text.false (λ e. c.in_default.not-Close (c.of.ensures ∙ e)) c.inner_at.result c.inner_at.ensures; spelling = one_spelling }
