@@ -1,7 +1,7 @@
 -- Forms, groups and members, from the words that they begin with.
-use Rattle.std.proofs.Common.{◌≡◌, ℕ, ◌-◌, ◌<◌, ◌≤◌, Bool, true, false, List, [], ◌∷◌, length, drop, is_err, Some, None, Ok, Err, Result, sym, refl, ap, ◌∙◌, subst, arith}
+use Rattle.std.proofs.Common.{◌≡◌, ℕ, ◌-◌, ◌<◌, ◌≤◌, Bool, true, false, List, ◌∷◌, drop, is_err, Some, None, Ok, Err, Result, refl, ap, subst, arith}
 use mathlib.Core.Bool.{false≢true}
-use Rattle.text.specs.Words.{Token, opens, closes, named, negated, Stands, Inner, Run}
+use Rattle.text.specs.Words.{Token, opens, closes, named, negated, Stands, Inner}
 use Rattle.text.specs.Runs.{NextAt}
 use Rattle.forms.specs.declared.expr.Head.{Head}
 use Rattle.forms.specs.declared.expr.NotForm.{NotForm}

@@ -1,8 +1,8 @@
 -- One word of a line at a time.
-use Rattle.std.proofs.Common.{◌≡◌, ℕ, ◌<◌, Bool, true, false, List, [], ◌∷◌, ◌++◌, length, drop, Some, None, sym, refl, ap, ◌∙◌, subst, arith, Bor}
+use Rattle.std.proofs.Common.{◌≡◌, ℕ, Bool, List, ◌∷◌, ◌++◌, drop, None, sym, refl, ap, ◌∙◌, arith, Bor}
 use Rattle.text.specs.declared.word.Word.{Word}
 use Rattle.text.specs.declared.word.Word.TheVariants.{Open, Close, Name, Never}
-use Rattle.text.specs.Words.{Token, token_of, opens, closes, named, negated, spelt, IsToken, Ends, gap, Stands, is_open, spells, Tokens, Run}
+use Rattle.text.specs.Words.{Token, token_of, closes, named, negated, spelt, gap, Stands, is_open, spells}
 use Rattle.text.specs.Runs.{NextAt}
 use Rattle.text.proofs.Spelling.{same_gapped, words_end}
 use Rattle.forms.specs.declared.expr.Head.{Head}

@@ -15,9 +15,9 @@ returns-in-Close c =
     let stands = subst (λ w. Stands false (drop a bs) (token_of w) (drop e bs)) c.in-Close.is at in
     ((low, high), (λ ts l. left_to bs a false e closes ts stands l), (λ t ts l. left_from bs a false e closes t ts stands l))
 
-pub returns-in-default : goal.returns-in-default
-returns-in-default c =
+pub returns-in_default : goal.returns-in_default
+returns-in_default c =
     let bs = c.args.text.now in
     let a = c.args.at in
     let e = c.in-Some.next.end in
-    λ ts l. c.in-default.not-Close (token_close c.in-Some.next.word (left_from bs a false e (token_of c.in-Some.next.word) closes ts c.in-Some.ensures.word.2 l).0)
+    λ ts l. c.in_default.not-Close (token_close c.in-Some.next.word (left_from bs a false e (token_of c.in-Some.next.word) closes ts c.in-Some.ensures.word.2 l).0)
