@@ -1,10 +1,9 @@
 -- Names found, and literals read, step by step.
-use Rattle.std.proofs.Common.{◌≡◌, ℕ, ◌+◌, ◌<◌, ◌≤◌, List, [], ◌∷◌, ◌++◌, map, length, get_or, Some, None, Option, sym, refl, ap, ◌∙◌, subst, inl, inr, arith, Bor, MatchOption}
-use Rattle.std.proofs.lemmas.List.{get_or-map, length-map}
+use Rattle.std.proofs.Common.{◌≡◌, ℕ, ◌+◌, ◌<◌, List, [], ◌∷◌, ◌++◌, map, length, get_or, None, sym, refl, ap, ◌∙◌, subst, inl, inr, arith, Bor}
+use Rattle.std.proofs.lemmas.List.{get_or-map}
 use Rattle.std.proofs.lemmas.Bool.{cases_eq}
-use Rattle.algebra.specs.declared.literal.Literal.{Literal}
 use Rattle.algebra.specs.declared.literal.Literal.TheVariants.{Happened, Never}
-use Rattle.report.specs.Texts.{name_at, Named, text_of, Found, Says}
+use Rattle.report.specs.Texts.{name_at, Found, Says}
 
 -- the name at a place, as a reference there has it
 pub name_here : (names : List (Bor (List ℕ))) (i : ℕ) (x : Bor (List ℕ)) → i < length names → x ≡ get_or names i x → name_at (map (λ x. x.now) names) i ≡ x.now

@@ -1,9 +1,9 @@
 -- Events and literals as text. Assumes nothing.
---     name_at names e        the name of the event e
---     Named names l         the event of the literal l has a name, and is one of the first twelve
---     text_of names l        the literal as text: the event's name, and `~` before it where the event never happens
---     Found names t r       r is an event, one of the first twelve, with the name t; absent if there is none
---     Says names t r        r is a literal with the text t; absent if there is none
+--     name_at names e   the name of the event e
+--     Named names l     the event of the literal l has a name, and is one of the first twelve
+--     text_of names l   the literal as text: the event's name, and `~` before it where the event never happens
+--     Found names t r   r is an event, one of the first twelve, with the name t; absent if there is none
+--     Says names t r    r is a literal with the text t; absent if there is none
 use Rattle.std.specs.Prelude.{◌≡◌, ℕ, ◌<◌, List, [], ◌∷◌, length, Some, None, Option, ◌≢◌, slice_index_or}
 use Rattle.algebra.specs.declared.literal.Literal.{Literal}
 use Rattle.algebra.specs.declared.literal.Literal.TheVariants.{Happened, Never}

@@ -1,9 +1,9 @@
 -- What is printed of a list of words that are read as literals. Assumes nothing.
---     Begun xs s               s has taken no literal yet, of the rules xs
---     Took names xs s d t r    where the state was s and the word was d, the answer is r and t stands afterwards
---     Spelt names w ds         the words ds are the texts of the literals w
---     Told names xs ds t o     of the words ds the bytes t are printed, and o is how far they were read
---     refusal_of ds o           what is said to people of the words ds, where not all were read
+--     Begun xs s              s has taken no literal yet, of the rules xs
+--     Took names xs s d t r   where the state was s and the word was d, the answer is r and t stands afterwards
+--     Spelt names w ds        the words ds are the texts of the literals w
+--     Told names xs ds t o    of the words ds the bytes t are printed, and o is how far they were read
+--     refusal_of ds o         what is said to people of the words ds, where not all were read
 use Rattle.std.specs.Prelude.{◌≡◌, ℕ, ◌+◌, ◌<◌, List, [], ◌∷◌, ◌++◌, map, length, take, replicate, Some, None, Ok, Err, string_bytes, codes, decimal, Option, Result, slice_index_or}
 use mathlib.Core.List.{Memᴰ}
 use Rattle.std.specs.declared.alloc.AllocError.{AllocError}

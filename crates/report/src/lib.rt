@@ -1,4 +1,6 @@
 // The bytes that the program prints.
+#![tactic(auto)]
+
 pub mod lines;
 pub mod names;
 pub mod walk;

@@ -1,4 +1,4 @@
-use Rattle.std.proofs.Common.{◌≡◌, ℕ, string_bytes, sym, ◌∙◌, arith}
+use Rattle.std.proofs.Common.{string_bytes, ◌∙◌, arith}
 use Rattle.algebra.specs.Of.{rules_of, literals_of}
 use Rattle.report.proofs.Printing.{printed_none, printed_more, printed_all, no_rule}
 use Rattle.report.proofs.lines.rule_lines.Goals as goal
@@ -13,8 +13,8 @@ unreachable-requires c =
 pub loop-number-preserved : goal.loop-number-preserved
 loop-number-preserved c =
     printed_more (rules_of c.args.rules.now) (literals_of c.args.trace.now) c.loop-number.number (string_bytes c.loop-number.text) c.loop-number.invariant
-    c.in-Some.fulfilled c.as-str.result.now (string_bytes c.push-str.new.self) c.in-Some.ensures.answer
-    (c.as-str.ensures.value ∙ c.in-ok-line.ensures) c.in-ok-push-str.ensures.bytes
+    c.in-Some.fulfilled c.as_str.result.now (string_bytes c.push_str.new.self) c.in-Some.ensures.answer
+    (c.as_str.ensures.value ∙ c.in_ok-line-in-Some.ensures) c.in_ok-push_str-in-Some.ensures.bytes
 
 pub returns : goal.returns
 returns c =

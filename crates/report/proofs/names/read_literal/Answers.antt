@@ -4,21 +4,21 @@ use Rattle.report.proofs.Reading.{says_none, says_none_behind}
 use Rattle.report.proofs.names.read_literal.Goals as goal
 use Rattle.std.proofs.lemmas.Bool.Decides.{Decides-eqb}
 
-pub returns-in-None-strip-prefix : goal.returns-in-None-strip-prefix
-returns-in-None-strip-prefix c =
+pub returns-in-None-strip_prefix : goal.returns-in-None-strip_prefix
+returns-in-None-strip_prefix c =
     let t = c.args.text.now in
-    let none = subst (λ r. MatchOption r ((rest : List _) → t ≡ (126 ∷ []) ++ rest → ⊥) (λ x. t ≡ (126 ∷ []) ++ x.now)) c.in-None-strip-prefix.is (strip_prefix_is Decides-eqb t (126 ∷ []) c.strip-prefix.result c.strip-prefix.ensures.cases) in
+    let none = subst (λ r. MatchOption r ((rest : List _) → t ≡ (126 ∷ []) ++ rest → ⊥) (λ x. t ≡ (126 ∷ []) ++ x.now)) c.in-None-strip_prefix.is (strip_prefix_is Decides-eqb t (126 ∷ []) c.strip_prefix.result c.strip_prefix.ensures.cases) in
     says_none (map (λ x. x.now) c.args.names.now) t c.in-None.ensures (λ name e. absurd (none name e))
 
 pub returns-in-Some-find : goal.returns-in-Some-find
 returns-in-Some-find c =
     let t = c.args.text.now in
-    let cut = subst (λ r. MatchOption r ((rest : List _) → t ≡ (126 ∷ []) ++ rest → ⊥) (λ x. t ≡ (126 ∷ []) ++ x.now)) c.in-Some-strip-prefix.is (strip_prefix_is Decides-eqb t (126 ∷ []) c.strip-prefix.result c.strip-prefix.ensures.cases) in
+    let cut = subst (λ r. MatchOption r ((rest : List _) → t ≡ (126 ∷ []) ++ rest → ⊥) (λ x. t ≡ (126 ∷ []) ++ x.now)) c.in-Some-strip_prefix.is (strip_prefix_is Decides-eqb t (126 ∷ []) c.strip_prefix.result c.strip_prefix.ensures.cases) in
     let found = c.in-Some-find.ensures in
     ((found.0, found.1), ap (λ name. 126 ∷ name) found.2 ∙ sym cut)
 
 pub returns-in-None-find : goal.returns-in-None-find
 returns-in-None-find c =
     let t = c.args.text.now in
-    let cut = subst (λ r. MatchOption r ((rest : List _) → t ≡ (126 ∷ []) ++ rest → ⊥) (λ x. t ≡ (126 ∷ []) ++ x.now)) c.in-Some-strip-prefix.is (strip_prefix_is Decides-eqb t (126 ∷ []) c.strip-prefix.result c.strip-prefix.ensures.cases) in
-    says_none_behind (map (λ x. x.now) c.args.names.now) t c.in-Some-strip-prefix.name.now cut c.in-None.ensures c.in-None-find.ensures
+    let cut = subst (λ r. MatchOption r ((rest : List _) → t ≡ (126 ∷ []) ++ rest → ⊥) (λ x. t ≡ (126 ∷ []) ++ x.now)) c.in-Some-strip_prefix.is (strip_prefix_is Decides-eqb t (126 ∷ []) c.strip_prefix.result c.strip_prefix.ensures.cases) in
+    says_none_behind (map (λ x. x.now) c.args.names.now) t c.in-Some-strip_prefix.name.now cut c.in-None.ensures c.in-None-find.ensures

@@ -1,4 +1,4 @@
-use Rattle.std.proofs.Common.{◌≡◌, ◌≤◌, List, [], map, length, string_bytes, sym, ◌∙◌, arith}
+use Rattle.std.proofs.Common.{◌≤◌, [], map, length, string_bytes, sym, ◌∙◌, arith}
 use Rattle.std.proofs.lemmas.List.{get_or_past, length-map}
 use Rattle.report.proofs.Walking.{word_at}
 use Rattle.report.proofs.walk.word_at.Goals as goal
@@ -6,7 +6,7 @@ use Rattle.report.proofs.walk.word_at.Goals as goal
 pub returns-in-Some : goal.returns-in-Some
 returns-in-Some c =
     let item = c.in-Some.ensures.lookup.3 in
-    c.as-str.ensures.value ∙ word_at c.args.words.now c.args.number c.in-Some.word.now item.0 (item.1 c.in-Some.word.now)
+    c.as_str.ensures.value ∙ word_at c.args.words.now c.args.number c.in-Some.word.now item.0 (item.1 c.in-Some.word.now)
 
 pub returns-in-None : goal.returns-in-None
 returns-in-None c =
