@@ -1,5 +1,7 @@
 // Reads a trace from standard input, a literal a line, and prints what is left of the rules of a
 // small flow after each literal, and then what each rule came to.
+#![tactic(auto)]
+
 mod sample;
 
 use report::{left, refusal};
@@ -22,7 +24,7 @@ fn run(rt: &HostRuntime) -> anyhow::Result<()> {
     print!(rt; "{}", report.text)?;
     match refusal(heap, report.outcome, words.as_slice())? {
         None => Ok(()),
-        Some(message) => Err(message.into()),
+        Some(message) => Err(anyhow::Error::msg(message)),
     }
 }
 
