@@ -1,8 +1,8 @@
 -- Numbers by their last digit, as keys. Assumes nothing.
 --     same_digit a b     a and b end in one digit
---     parity a          0 for an even number, 1 for an odd one, which numbers with one last digit share
-use Rattle.std.specs.Prelude.{◌≡◌, ℕ, ◌+◌, ◌*◌, ◌%◌, Bool, true, ◌==◌, refl}
-use Rattle.std.proofs.Common.{sym, ap, ◌∙◌, arith}
+--     parity a           0 for an even number, 1 for an odd one, which numbers with one last digit share
+use Rattle.std.specs.Prelude.{ℕ, ◌%◌, Bool, ◌==◌, refl}
+use Rattle.std.proofs.Common.{sym, ◌∙◌, arith}
 use Rattle.std.proofs.lemmas.Bool.{eqb-true, eq-eqb}
 use Rattle.slots.specs.Keys.{Laws}
 use Rattle.cases.specs.declared.digit.LastDigit.{LastDigit}

@@ -1,4 +1,5 @@
 // The known values of rules and positions, as tests over tables.
+#![tactic(auto)]
 
 #[cfg(test)]
 mod build;
@@ -119,15 +120,10 @@ mod tests {
         let report = left(heap, &[b"approve", b"plate"], &rules, words.as_slice())?;
         assert!(rt; report.text.as_str() == printed);
         match refusal(heap, report.outcome, words.as_slice())? {
-            None => {
-                assert!(rt; refused == "");
-                Ok(())
-            },
-            Some(message) => {
-                assert!(rt; message.as_str() == refused);
-                Ok(())
-            },
+            None => assert!(rt; refused == ""),
+            Some(message) => assert!(rt; message.as_str() == refused),
         }
+        Ok(())
     }
 
     #[test]
