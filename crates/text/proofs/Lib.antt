@@ -1,3 +1,5 @@
+mod Cutting
+mod Placing
 mod Reading
 pub mod Spelling
 mod Tables

@@ -1,7 +1,8 @@
 -- The bytes of a line's words determine the words.
-use Rattle.std.proofs.Common.{◌≡◌, ℕ, suc, ◌<◌, Bool, true, false, List, [], ◌∷◌, ◌++◌, length, get_or, sym, refl, ap, ◌∙◌, subst, arith}
+use Rattle.std.proofs.Common.{◌≡◌, ℕ, zero, suc, ◌<◌, Bool, true, false, ◌&&◌, List, [], ◌∷◌, ◌++◌, length, get_or, Decides, MatchBool, sym, refl, ap, ◌∙◌, subst, arith}
 use mathlib.Core.Bool.{false≢true}
-use Rattle.text.specs.Words.{name_byte, Token, opens, closes, named, negated, spelt, Run, IsToken, Broken, Ends, gap, is_open, spells, OneSpelling}
+use Rattle.std.proofs.lemmas.Bool.{and_parts}
+use Rattle.text.specs.Words.{name_byte, Token, opens, closes, named, negated, spelt, Run, IsToken, Broken, Ends, gap, is_open, Written, spells, Tokens, OneSpelling}
 
 head_same : {x y : ℕ} {xs ys : List ℕ} → x ∷ xs ≡ y ∷ ys → x ≡ y
 head_same e = cc
@@ -89,7 +90,7 @@ words_end (named n) ts = gap_broken ts
 words_end (negated n) ts = gap_broken ts
 
 -- a token has bytes
-begins : (tight : Bool) (t : Token) (r : List ℕ) → IsToken t → [] ≡ gap tight t ++ (spelt t ++ r) → ⊥
+pub begins : (tight : Bool) (t : Token) (r : List ℕ) → IsToken t → [] ≡ gap tight t ++ (spelt t ++ r) → ⊥
 begins true opens r i e = nil_not_cons e
 begins true closes r i e = nil_not_cons e
 begins true (named []) r i e = absurd (let h = i.0 in omega arith)
@@ -109,3 +110,29 @@ one_spelling tight (t ∷ ts) (u ∷ us) f g e =
     let same = p.0 in
     let rest = one_spelling (is_open t) ts us f.1 g.1 (p.1 ∙ ap (λ z. spells (is_open z) us) (sym same)) in
     cc
+
+-- tokens to the end of some bytes
+pub written_spells : (tight : Bool) (bs : List ℕ) (ts : List Token) → Written tight bs ts [] → bs ≡ spells tight ts
+written_spells tight bs [] is = is
+written_spells tight bs (t ∷ ts) (mid, (token, is, ends), rest) = is ∙ ap (λ z. gap tight t ++ (spelt t ++ z)) (written_spells (is_open t) mid ts rest)
+
+pub spells_written : (tight : Bool) (ts : List Token) → Tokens ts → Written tight (spells tight ts) ts []
+spells_written tight [] all = refl
+spells_written tight (t ∷ ts) (token, all) = (spells (is_open t) ts, (token, refl, words_end t ts), spells_written (is_open t) ts all)
+
+-- bytes that stand in names are a name
+abbrev pub inside : List ℕ → Bool
+inside [] = true
+inside (x ∷ n) = name_byte x && inside n
+
+inside_all : (n : List ℕ) → inside n ≡ true → Inside n
+inside_all [] all k h = absurd (omega arith)
+inside_all (x ∷ n) all zero h = (and_parts (name_byte x) (inside n) all).0
+inside_all (x ∷ n) all (suc k) h = inside_all n (and_parts (name_byte x) (inside n) all).1 k (omega arith)
+
+pub run_of : (n : List ℕ) → 0 < length n → inside n ≡ true → Run n
+run_of n some all = (some, inside_all n all)
+
+pub decided : {P : Type 0} (b : Bool) → Decides b P → MatchBool b P (P → ⊥)
+decided true (to, from) = to refl
+decided false (to, from) = λ p. false≢true (from p)

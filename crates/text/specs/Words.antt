@@ -13,6 +13,7 @@
 --     Stands tight bs t rest   bs begins with the token t, after its gap, and rest goes on
 --     Inner t                  t is no closing bracket
 --     is_open t                t is an opening bracket, behind which there is no gap
+--     Written tight bs ts rest bs begins with the tokens ts, one behind the other, and rest goes on
 --     spells tight ts          the bytes of the tokens ts, each after its gap
 --     Tokens ts                each of ts is a token
 --     OneSpelling              bytes are those of at most one list of tokens
@@ -92,6 +93,10 @@ is_open opens = true
 is_open closes = false
 is_open (named n) = false
 is_open (negated n) = false
+
+abbrev pub Written : Bool → List ℕ → List Token → List ℕ → Type 0
+Written tight bs [] rest = bs ≡ rest
+Written tight bs (t ∷ ts) rest = (mid : List ℕ) × Stands tight bs t mid × Written (is_open t) mid ts rest
 
 abbrev pub spells : Bool → List Token → List ℕ
 spells tight [] = []

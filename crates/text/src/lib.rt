@@ -3,8 +3,10 @@
 
 pub mod kind;
 pub mod line;
+pub mod placed;
 pub mod word;
 
 pub use kind::Kind;
-pub use line::line_end;
-pub use word::{Next, Word, next_word};
+pub use line::{ByteFault, Line, line_at, line_end};
+pub use placed::Placed;
+pub use word::{Next, Word, is_word, next_word};

@@ -1,5 +1,5 @@
 // Words of a line: brackets, names, and names behind `~`.
-ghost use Rattle.std.specs.Prelude.{◌≡◌, ◌≤◌, true, false, length};
+ghost use Rattle.std.specs.Prelude.{◌≡◌, ◌≤◌, true, false, length, MatchBool, ◌≢◌};
 ghost use Rattle.text.specs.Words.{in_name, OneSpelling};
 ghost use Rattle.text.specs.Runs.{EndOfRun, NameAt, InnerAt, NextAt};
 
@@ -32,6 +32,19 @@ impl Kind {
             _ => false,
         }
     }
+}
+
+// Whether a name is a word.
+pub fn is_word(name: &[u8], word: &[u8]) -> bool
+    ensures { MatchBool result (name.now ≡ word.now) (name.now ≢ word.now) }
+{
+    same_bytes(name, word)
+}
+
+fn same_bytes(a: &[u8], b: &[u8]) -> bool
+    ensures { MatchBool result (a.now ≡ b.now) (a.now ≢ b.now) }
+{
+    a == b
 }
 
 // Where the bytes end that stand in a name, from a place on.
