@@ -1,0 +1,5 @@
+mod Ending
+pub mod Parsing
+mod Saying
+pub mod Steps
+pub mod Wording

@@ -1,0 +1,77 @@
+-- What the form reader answers of the parts of a line. Assumes nothing.
+--     GradeOf n r              r is the grade that the name n says; absent if it says none
+--     NameIs tight bs a r      r is the name that stands at place a, and where it ends; absent if none does
+--     declaring n e            the words behind the word event that declare the event e with the name n
+--     OpenAt bs a r            r is where the opening bracket ends that stands at place a, with no gap; absent if none does
+--     GradeAt bs a r           r is the grade whose word stands at place a, and where it ends; absent if none does
+--     ForciblyAt bs a r        from place a on the line ends an event's declaration, forcible if r says so; absent if it does not
+--     EventAt bs a r           r is the event that is declared from place a on, behind the word event, to the line's end; absent if none is
+--     RuleAt l a r             r is the rule that is stated from place a of the line l on, behind the word rule, to its end; absent if none is
+--     ItemOf l r               r is the item that the words of the line l say; absent if they say none
+--     takes s x                the entry x may come next
+--     LineSays s l r           r is the item that the line l says and that may come next; absent if it says none, or no line feed ends it
+use Rattle.std.specs.Prelude.{◌≡◌, ℕ, Bool, true, false, List, [], ◌∷◌, drop, Some, None, Option, ◌≢◌}
+use Rattle.std.specs.Borrow.{Bor}
+use Rattle.sheet.specs.declared.grade.Grade.{Grade}
+use Rattle.sheet.specs.declared.grade.Event.{Event}
+use Rattle.text.specs.declared.line.Line.{Line}
+use Rattle.text.specs.Files.{bytes_of}
+use Rattle.text.specs.Words.{Token, opens, closes, named, Run, Stands, Written}
+use Rattle.entries.specs.declared.line.Declaration.{Declaration}
+use Rattle.entries.specs.declared.line.Passage.{Passage}
+use Rattle.entries.specs.declared.line.Section.{Section}
+use Rattle.entries.specs.declared.line.Section.TheVariants.{Start, Events, Rules}
+use Rattle.entries.specs.declared.line.Entry.{Entry}
+use Rattle.entries.specs.declared.line.Entry.TheVariants as entry
+use Rattle.entries.specs.Forms.{Form, words, Fine}
+use Rattle.entries.specs.Items.{grade_text, forcibly, Item, item_words, FineItem, Shaped}
+use Rattle.entries.specs.Entries.{Says, Of}
+use Rattle.entries.specs.Reads.{Left, Within}
+
+abbrev pub GradeOf : List ℕ → Option Grade → Type 0
+GradeOf n None = (g : Grade) → n ≢ grade_text g
+GradeOf n (Some g) = n ≡ grade_text g
+
+abbrev pub NameIs : Bool → List ℕ → ℕ → Option (Bor (List ℕ) × ℕ) → Type 0
+NameIs tight bs a None = (n o : List ℕ) → Stands tight (drop a bs) (named n) o → ⊥
+NameIs tight bs a (Some (n, e)) = Within bs a e × Stands tight (drop a bs) (named n.now) (drop e bs)
+
+abbrev pub OpenAt : List ℕ → ℕ → Option ℕ → Type 0
+OpenAt bs a None = (o : List ℕ) → Stands true (drop a bs) opens o → ⊥
+OpenAt bs a (Some e) = Stands true (drop a bs) opens (drop e bs)
+
+abbrev pub GradeAt : List ℕ → ℕ → Option (Grade × ℕ) → Type 0
+GradeAt bs a None = (g : Grade) (o : List ℕ) → Stands false (drop a bs) (named (grade_text g)) o → ⊥
+GradeAt bs a (Some (g, e)) = Within bs a e × Stands false (drop a bs) (named (grade_text g)) (drop e bs)
+
+abbrev pub ForciblyAt : List ℕ → ℕ → Option Bool → Type 0
+ForciblyAt bs a None = (b : Bool) → Left bs a false (forcibly b (closes ∷ [])) [] → ⊥
+ForciblyAt bs a (Some b) = Left bs a false (forcibly b (closes ∷ [])) []
+
+abbrev pub declaring : List ℕ → Event → List Token
+declaring n e = named n ∷ (named (grade_text e.grade) ∷ forcibly e.forcible (closes ∷ []))
+
+abbrev pub EventAt : List ℕ → ℕ → Option Declaration → Type 0
+EventAt bs a None = (n : List ℕ) (e : Event) → Left bs a false (declaring n e) [] → ⊥
+EventAt bs a (Some x) = Run x.name.now × Left bs a false (declaring x.name.now x.event) []
+
+abbrev pub RuleAt : Line → ℕ → Option Passage → Type 0
+RuleAt l a None = (f : Form) → Fine f 8 → Left l.text.now a false (words f (closes ∷ [])) [] → ⊥
+RuleAt l a (Some x) =
+    (x.line ≡ l) × (x.at ≡ a) × ((f : Form) × Fine f 8 × Left l.text.now a false (words f (closes ∷ [])) [])
+
+abbrev pub ItemOf : Line → Option Entry → Type 0
+ItemOf l None = (i : Item) → FineItem i → Written true (bytes_of l) (item_words i) [] → ⊥
+ItemOf l (Some x) = (i : Item) × FineItem i × Written true (bytes_of l) (item_words i) [] × Says x i × Of l x
+
+abbrev pub takes : Section → Entry → Bool
+takes Start (entry.Event x) = true
+takes Start (entry.Rule x) = false
+takes Events (entry.Event x) = true
+takes Events (entry.Rule x) = true
+takes Rules (entry.Event x) = false
+takes Rules (entry.Rule x) = true
+
+abbrev pub LineSays : Section → Line → Option Entry → Type 0
+LineSays s l None = (i : Item) → Shaped s (bytes_of l) l.ended i → ⊥
+LineSays s l (Some x) = ((i : Item) × Shaped s (bytes_of l) l.ended i × Says x i) × Of l x

@@ -1,0 +1,10 @@
+// The shape of lines and expressions, as text: the form reader.
+#![tactic(auto)]
+
+pub mod entry;
+pub mod expr;
+pub mod line;
+
+pub use entry::{grade_text, read_line};
+pub use expr::{NotForm, close_at, head_at, head_text};
+pub use line::{Declaration, Entry, FormFault, Passage, Read, Section};
