@@ -7,8 +7,8 @@
 --     reader_text r         the word of a reader
 --     refusal_of f          the refusal that a fault of the form reader is
 use Rattle.std.specs.Prelude.{List, ℕ, codes}
-use Rattle.forms.specs.declared.line.FormFault.{FormFault}
-use Rattle.forms.specs.declared.line.FormFault.TheVariants as form
+use Rattle.entries.specs.declared.line.FormFault.{FormFault}
+use Rattle.entries.specs.declared.line.FormFault.TheVariants as form
 use Rattle.refusals.specs.declared.refusal.Fault.{Fault}
 use Rattle.refusals.specs.declared.refusal.Fault.TheVariants.{Byte, Shape, Name, Twice, Undeclared, TooMany}
 use Rattle.refusals.specs.declared.refusal.Reader.{Reader}

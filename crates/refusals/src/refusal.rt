@@ -2,7 +2,7 @@
 ghost use Rattle.std.specs.Prelude.{◌≡◌};
 ghost use Rattle.refusals.specs.Refusals.{fault_number, fault_reader, number_of, line_of, reader_of, reader_text, refusal_of};
 
-use forms::FormFault;
+use entries::FormFault;
 
 // The readers of a flow file, each over the one before it.
 #[derive(Clone, Copy)]
