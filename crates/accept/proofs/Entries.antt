@@ -13,7 +13,7 @@ use Rattle.accept.proofs.Tallying.{at_known}
 
 module _ (s t : List (Slot NameKey)) (n : Bor (List ℕ)) (k v : ℕ) (is : v ≡ k) where
   abbrev key : List ℕ → NameKey
-  key m = record { bytes = record { ref_ptr = n.ref_ptr; ghost_name = n.name; now = m } }
+  key m = record { bytes = record { ref_ptr = n.ref_ptr; now = m } }
 
   pub entering : (r : Inserted) → Inserts same_name s t (record { bytes = n }) v r → Entering s n.now k t r
   entering New (new, many, long, all) = (

@@ -12,10 +12,10 @@ use Rattle.std.proofs.lemmas.Bool.{cases_Bool}
 use Rattle.slots.specs.declared.slot.Slot.{Slot}
 use Rattle.slots.specs.declared.slot.Slot.TheVariants.{Free, Taken}
 use Rattle.slots.specs.Maps.{Valid, taken}
-use Rattle.forms.specs.declared.line.Section.{Section}
-use Rattle.forms.specs.declared.line.Section.TheVariants.{Start, Events, Rules}
-use Rattle.forms.specs.Forms.{Form}
-use Rattle.forms.specs.Items.{Declared, Item, event, rule, FineItem, render, Comes}
+use Rattle.entries.specs.declared.line.Section.{Section}
+use Rattle.entries.specs.declared.line.Section.TheVariants.{Start, Events, Rules}
+use Rattle.entries.specs.Forms.{Form}
+use Rattle.entries.specs.Items.{Declared, Item, event, rule, FineItem, render, Comes}
 use Rattle.accept.specs.declared.key.NameKey.{NameKey}
 use Rattle.accept.specs.Keys.{same_name, name_hash}
 use Rattle.accept.specs.Drafts.{IsName, leaves, Names, Draft, names, leaf_count, event_line, rule_line, rendered, section_of, section, Declares, Apart, Keeps}

@@ -11,9 +11,9 @@ use Rattle.text.specs.declared.kind.Kind.TheVariants.{Other}
 use Rattle.text.specs.Kinds.{kind_of}
 use Rattle.text.specs.Words.{in_name, name_byte, Token, opens, closes, named, negated, spelt, Run, IsToken, gap, is_open, spells, Tokens}
 use Rattle.text.specs.Lines.{OneLine, FeedNext, ended, Strange}
-use Rattle.forms.specs.Forms.{Form}
-use Rattle.forms.specs.Items.{Declared, Item, event, rule, item_words, FineItem, render, Comes}
-use Rattle.forms.proofs.Wording.{item_tokens, one_item}
+use Rattle.entries.specs.Forms.{Form}
+use Rattle.entries.specs.Items.{Declared, Item, event, rule, item_words, FineItem, render, Comes}
+use Rattle.entries.proofs.Wording.{item_tokens, one_item}
 use Rattle.refusals.specs.declared.refusal.Fault.{Fault}
 use Rattle.refusals.specs.declared.refusal.Fault.TheVariants.{Byte, Shape, Name, Twice, Undeclared, TooMany}
 use Rattle.refusals.specs.declared.refusal.Refusal.TheVariants.{TooLong, Line}

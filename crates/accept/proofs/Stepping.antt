@@ -10,19 +10,19 @@ use Rattle.text.specs.declared.line.Line.{Line}
 use Rattle.text.specs.Files.{bytes_of, CutAt}
 use Rattle.text.specs.Lines.{FirstLine, FeedNext, ended, Strange}
 use Rattle.text.specs.Words.{closes, Run}
-use Rattle.forms.specs.declared.line.Section.{Section}
-use Rattle.forms.specs.declared.line.Declaration.{Declaration}
-use Rattle.forms.specs.declared.line.Passage.{Passage}
-use Rattle.forms.specs.declared.line.Entry.{Entry}
-use Rattle.forms.specs.declared.line.Entry.TheVariants as entry
-use Rattle.forms.specs.declared.line.Read.{Read}
-use Rattle.forms.specs.declared.line.FormFault.{FormFault}
-use Rattle.forms.specs.declared.line.FormFault.TheVariants as form
-use Rattle.forms.specs.Forms.{Form, words}
-use Rattle.forms.specs.Items.{Declared, Item, event, rule, FineItem, Comes, render, Shaped}
-use Rattle.forms.specs.Reads.{Left}
-use Rattle.forms.specs.Entries.{Says, EntryAt}
-use Rattle.forms.proofs.Wording.{one_item}
+use Rattle.entries.specs.declared.line.Section.{Section}
+use Rattle.entries.specs.declared.line.Declaration.{Declaration}
+use Rattle.entries.specs.declared.line.Passage.{Passage}
+use Rattle.entries.specs.declared.line.Entry.{Entry}
+use Rattle.entries.specs.declared.line.Entry.TheVariants as entry
+use Rattle.entries.specs.declared.line.Read.{Read}
+use Rattle.entries.specs.declared.line.FormFault.{FormFault}
+use Rattle.entries.specs.declared.line.FormFault.TheVariants as form
+use Rattle.entries.specs.Forms.{Form, words}
+use Rattle.entries.specs.Items.{Declared, Item, event, rule, FineItem, Comes, render, Shaped}
+use Rattle.entries.specs.Reads.{Left}
+use Rattle.entries.specs.Entries.{Says, EntryAt}
+use Rattle.entries.proofs.Wording.{one_item}
 use Rattle.accept.specs.declared.key.NameKey.{NameKey}
 use Rattle.accept.specs.declared.counts.Progress.{Progress}
 use Rattle.refusals.specs.declared.refusal.Fault.{Fault}
@@ -36,7 +36,7 @@ use Rattle.accept.specs.Outcomes.{Holds, OneTooMany, Faulty, FirstFault}
 use Rattle.accept.specs.Tallies.{known, Judged}
 use Rattle.accept.specs.Naming.{Declaring}
 use Rattle.accept.specs.Drafts.{Found}
-use Rattle.accept.specs.Steps.{Knows, Reached, grown, after_event, after_rule, Taking, Goes_on, Stepped}
+use Rattle.accept.specs.Steps.{Knows, Reached, grown, after_event, after_rule, Taking, GoesOn, Stepped}
 use Rattle.accept.proofs.Growing.{names_event, section_event_is, rendered_event, keeps_event, section_rule_is, leaves_rule, rendered_rule, keeps_rule, knows_more, knows_room, found_none, found_some}
 
 pub taking_rule : (s : List (Slot NameKey)) (p : Progress) (x : Entry) (y : Passage) (n k : ℕ) → x ≡ entry.Rule y → ((f : Form) → Left y.line.text.now y.at false (words f (closes ∷ [])) [] → Judged s f p.rules p.leaves (Ok k)) → Taking s p x s n (Ok (after_rule p n k))
@@ -71,7 +71,7 @@ module _ (d : Draft) (line tail : List ℕ) where
   below k b s n t u m Undeclared = u
   below k b s n t u m TooMany = m
 
-module _ (bs : List ℕ) (d : Draft) (p : Progress) (s : List (Slot NameKey)) (h : Reached bs d p s) (on : Goes_on bs p) (l : Line) (cut : CutAt bs p.at p.line l) where
+module _ (bs : List ℕ) (d : Draft) (p : Progress) (s : List (Slot NameKey)) (h : Reached bs d p s) (on : GoesOn bs p) (l : Line) (cut : CutAt bs p.at p.line l) where
   abbrev tail : List ℕ
   tail = drop (length l.text.now) bs
 
@@ -239,7 +239,7 @@ module _ (bs : List ℕ) (d : Draft) (p : Progress) (s : List (Slot NameKey)) (h
             names_are = h.names_are;
           }
 
-module _ (bs : List ℕ) (d : Draft) (p : Progress) (s : List (Slot NameKey)) (h : Reached bs d p s) (on : Goes_on bs p) where
+module _ (bs : List ℕ) (d : Draft) (p : Progress) (s : List (Slot NameKey)) (h : Reached bs d p s) (on : GoesOn bs p) where
   -- a fault that the form reader found
   form_fault : (f : FormFault) → EntryAt bs p.at p.line p.section (Err f) → Stepped bs d p.at s (Err (refusal_of f))
   form_fault (form.Bytes b) (n, (l, cut, strange)) = subst (λ k. FirstFault bs k Byte) (sym n) (byte_first bs d p s h on l cut strange)

@@ -2,12 +2,12 @@
 use Rattle.std.proofs.Common.{◌≡◌, ℕ, ◌<◌, ◌≤◌, Bool, true, false, List, [], ◌∷◌, ◌++◌, length, drop, Some, None, sym, refl, ap, ◌∙◌, subst, append_assoc, append-nil, arith, length-drop}
 use Rattle.std.proofs.lemmas.List.{drop_all}
 use Rattle.slots.specs.declared.slot.Slot.{Slot}
-use Rattle.text.specs.declared.word.Placed.{Placed}
+use Rattle.text.specs.declared.placed.Placed.{Placed}
 use Rattle.text.specs.Words.{Token, closes, token_of, is_open, Stands, Written}
-use Rattle.text.specs.Runs.{NextAt, WordAt}
+use Rattle.text.specs.Places.{PlacedAt, WordAt}
 use Rattle.text.proofs.Spelling.{same_gapped, begins}
-use Rattle.forms.specs.Forms.{Form, words}
-use Rattle.forms.specs.Reads.{Left}
+use Rattle.entries.specs.Forms.{Form, words}
+use Rattle.entries.specs.Reads.{Left}
 use Rattle.accept.specs.declared.key.NameKey.{NameKey}
 use Rattle.accept.specs.declared.counts.Tally.{Tally}
 use Rattle.accept.specs.Drafts.{Leaf, leaves}
@@ -37,14 +37,14 @@ module _ (bs : List ℕ) (start : ℕ) (s : List (Slot NameKey)) where
     not_done : at < length bs → drop at bs ≡ [] → ⊥
     not_done h e = let n : length (drop at bs) ≡ 0 = ap length e in let m = length-drop at bs in omega arith
 
-    stuck : at < length bs → NextAt tight bs at 0 None → (us : List Token) → Left bs at tight us [] → ⊥
+    stuck : at < length bs → PlacedAt tight bs at 0 None → (us : List Token) → Left bs at tight us [] → ⊥
     stuck h none [] l = not_done h l
     stuck h none (u ∷ us) (mid, stands, l) = none u mid stands
 
-    pub seen_stuck : at < length bs → NextAt tight bs at 0 None → (f : Form) → Left bs start false (words f (closes ∷ [])) [] → Tallied s (leaves f) t
+    pub seen_stuck : at < length bs → PlacedAt tight bs at 0 None → (f : Form) → Left bs start false (words f (closes ∷ [])) [] → Tallied s (leaves f) t
     seen_stuck h none f l = let (us, left, rest) = inv (words f (closes ∷ [])) l in absurd (stuck h none us left)
 
-    module _ (n : ℕ) (x : Placed) (u : Tally) (b : Bool) (w : WordAt tight bs at n x) (more : (ls : List Leaf) → Tallied s ls t → Tallied s (ls ++ leaf_of tight (token_of x.word)) u) (is_open : b ≡ is_open (token_of x.word)) (h : at < length bs) where
+    module _ (n : ℕ) (x : Placed) (u : Tally) (b : Bool) (w : WordAt tight bs at n x) (more : (ls : List Leaf) → Tallied s ls t → Tallied s (ls ++ leaf_of tight (token_of x.word)) u) (opening : b ≡ is_open (token_of x.word)) (h : at < length bs) where
       abbrev here : Token
       here = token_of x.word
 
@@ -54,7 +54,7 @@ module _ (bs : List ℕ) (start : ℕ) (s : List (Slot NameKey)) where
       on ts (v ∷ vs) (mid, (good, e, stops), l) seen is k =
           let p = same_gapped tight here v (drop x.end bs) mid w.stands.0 good w.stands.2 stops (sym w.stands.1 ∙ e) in
           let same : here ≡ v = p.0 in
-          let way : b ≡ is_open v = is_open ∙ ap is_open same in (
+          let way : b ≡ is_open v = opening ∙ ap is_open same in (
             vs,
             subst (λ m. Written b m vs []) (sym p.1) (subst (λ o. Written o mid vs []) (sym way) l),
             (

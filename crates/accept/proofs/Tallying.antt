@@ -10,7 +10,7 @@ use Rattle.slots.specs.Maps.{at}
 use Rattle.text.specs.declared.word.Word.{Word}
 use Rattle.text.specs.Words.{Token, token_of, is_open}
 use Rattle.text.specs.Words as token
-use Rattle.forms.specs.Forms.{Form, plain, never, group, Chain, last, more, words, chain}
+use Rattle.entries.specs.Forms.{Form, plain, never, group, Chain, last, more, words, chain}
 use Rattle.accept.specs.declared.key.NameKey.{NameKey}
 use Rattle.accept.specs.declared.counts.Tally.{Tally}
 use Rattle.refusals.specs.declared.refusal.Fault.{Fault}

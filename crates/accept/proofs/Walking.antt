@@ -4,15 +4,15 @@ use mathlib.Core.List.Memᴰ
 use Rattle.std.proofs.lemmas.List.{drop_all}
 use Rattle.slots.specs.declared.slot.Slot.{Slot}
 use Rattle.slots.specs.declared.slot.Slot.TheVariants.{Free, Taken}
-use Rattle.forms.specs.declared.line.Section.TheVariants.{Start}
-use Rattle.forms.specs.Items.{Item, event, rule}
+use Rattle.entries.specs.declared.line.Section.TheVariants.{Start}
+use Rattle.entries.specs.Items.{Item, event, rule}
 use Rattle.accept.specs.declared.key.NameKey.{NameKey}
 use Rattle.accept.specs.declared.counts.Progress.{Progress}
 use Rattle.accept.specs.declared.counts.Step.{Step}
 use Rattle.refusals.specs.declared.refusal.Refusal.{Refusal}
 use Rattle.refusals.specs.declared.refusal.Refusal.TheVariants.{TooLong, Line}
 use Rattle.accept.specs.Drafts.{Draft, rendered, Keeps}
-use Rattle.accept.specs.Steps.{Knows, Reached, grown, Goes_on, Stepped}
+use Rattle.accept.specs.Steps.{Knows, Reached, grown, GoesOn, Stepped}
 use Rattle.accept.specs.Tallies.{known}
 use Rattle.accept.specs.Drafts.{Found}
 use Rattle.accept.specs.Checks.{Walked, Accepting}
@@ -52,7 +52,7 @@ begins : (bs : List ℕ) → (0 < length bs) ⊎ (bs ≡ [])
 begins [] = inr refl
 begins (b ∷ bs) = inl (omega arith)
 
-pub goes_on : (bs : List ℕ) (p : Progress) → p.at ≡ 0 → Goes_on bs p
+pub goes_on : (bs : List ℕ) (p : Progress) → p.at ≡ 0 → GoesOn bs p
 goes_on bs p at = subst (λ n. (n < length bs) ⊎ (bs ≡ [])) (sym at) (begins bs)
 
 -- a draft with one item more has an event

@@ -5,19 +5,19 @@
 --     after_event p n       the progress p with one event more, where the next line begins at n
 --     after_rule p n k      the progress p with one rule more, and k leaves in all
 --     Taking s p x t n r   asked to take the entry x at p, the reader answers r and leaves the slots t, where it had s
---     Goes_on bs p         a line begins at p: bytes are left, or the file is empty
+--     GoesOn bs p         a line begins at p: bytes are left, or the file is empty
 --     Stepped bs d t r     the line behind those of the draft d says an item that may be taken, or r is its fault
 use Rattle.std.specs.Prelude.{◌≡◌, ℕ, ◌+◌, ◌<◌, ◌≤◌, false, ◌⊎◌, List, [], ◌∷◌, ◌++◌, length, drop, Ok, Err, Result}
 use Rattle.slots.specs.declared.slot.Slot.{Slot}
 use Rattle.slots.specs.Maps.{Valid, taken}
 use Rattle.text.specs.Words.{closes}
-use Rattle.forms.specs.declared.line.Section.TheVariants.{Events, Rules}
-use Rattle.forms.specs.declared.line.Entry.{Entry}
-use Rattle.forms.specs.declared.line.Entry.TheVariants as entry
-use Rattle.forms.specs.Forms.{Form, words}
-use Rattle.forms.specs.Items.{Item, event, rule}
-use Rattle.forms.specs.Reads.{Left}
-use Rattle.forms.specs.Entries.{Says}
+use Rattle.entries.specs.declared.line.Section.TheVariants.{Events, Rules}
+use Rattle.entries.specs.declared.line.Entry.{Entry}
+use Rattle.entries.specs.declared.line.Entry.TheVariants as entry
+use Rattle.entries.specs.Forms.{Form, words}
+use Rattle.entries.specs.Items.{Item, event, rule}
+use Rattle.entries.specs.Reads.{Left}
+use Rattle.entries.specs.Entries.{Says}
 use Rattle.accept.specs.declared.key.NameKey.{NameKey}
 use Rattle.accept.specs.declared.counts.Progress.{Progress}
 use Rattle.accept.specs.declared.counts.Step.{Step}
@@ -67,8 +67,8 @@ Taking s p (entry.Rule x) t n (Ok q) =
 Taking s p (entry.Rule x) t n (Err k) =
     (t ≡ s) × ((f : Form) → Left x.line.text.now x.at false (words f (closes ∷ [])) [] → Judged s f p.rules p.leaves (Err k))
 
-abbrev pub Goes_on : List ℕ → Progress → Type 0
-Goes_on bs p = (p.at < length bs) ⊎ (bs ≡ [])
+abbrev pub GoesOn : List ℕ → Progress → Type 0
+GoesOn bs p = (p.at < length bs) ⊎ (bs ≡ [])
 
 abbrev pub Stepped : List ℕ → Draft → ℕ → List (Slot NameKey) → Result Step Refusal → Type 0
 Stepped bs d a t (Ok x) = (a < x.progress.at) × ((i : Item) × Says x.entry i × Reached bs (grown d i) x.progress t)

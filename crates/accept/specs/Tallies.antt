@@ -18,7 +18,7 @@ use Rattle.slots.specs.declared.slot.Slot.{Slot}
 use Rattle.slots.specs.declared.slot.Slot.TheVariants.{Free, Taken}
 use Rattle.text.specs.Words.{Token, is_open}
 use Rattle.text.specs.Words as token
-use Rattle.forms.specs.Forms.{Form}
+use Rattle.entries.specs.Forms.{Form}
 use Rattle.accept.specs.declared.key.NameKey.{NameKey}
 use Rattle.accept.specs.declared.counts.Tally.{Tally}
 use Rattle.refusals.specs.declared.refusal.Fault.{Fault}

@@ -1,5 +1,5 @@
 // Counts that the flow reader keeps.
-use forms::{Entry, Section};
+use entries::{Entry, Section};
 
 // What the leaves of a rule come to, as far as they were looked at.
 #[derive(Clone, Copy)]

@@ -23,7 +23,7 @@ pub(crate) fn lookup<'a>(slots: &[Slot<NameKey<'a>>], name: &'a [u8]) -> Option<
 pub fn event_of<'a>(name: &'a [u8], slots: &[Slot<NameKey<'a>>]) -> u8
     requires valid { Valid same_name name_hash slots.now }
     requires few { Few slots.now }
-    requires name_nonzero { known slots.now name.now ≢ None }
+    requires name_known { known slots.now name.now ≢ None }
     ensures { known slots.now name.now ≡ Some result }
 {
     match lookup(slots, name) {
@@ -47,7 +47,7 @@ pub(crate) fn declare<'a>(
     name: &'a [u8],
     number: u8,
 ) -> Result<(), Fault>
-    requires valid_2 { Valid same_name name_hash slots.old }
+    requires valid_before { Valid same_name name_hash slots.old }
     requires run { Run name.now }
     ensures declared { Declaring slots.old name.now number slots.new result }
     ensures valid { Valid same_name name_hash slots.new }

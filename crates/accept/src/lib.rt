@@ -1,4 +1,6 @@
 // Whether a file is a flow's, found without memory: names, the faults of lines, and whole files.
+#![tactic(auto)]
+
 pub mod counts;
 pub mod declare;
 pub mod key;

@@ -4,13 +4,13 @@ ghost use Rattle.slots.specs.Maps.{Valid};
 ghost use Rattle.accept.specs.Keys.{same_name, name_hash};
 ghost use Rattle.accept.specs.Drafts.{Draft};
 ghost use Rattle.accept.specs.Entries.{RunIn};
-ghost use Rattle.accept.specs.Steps.{Reached, Taking, Goes_on, Stepped};
+ghost use Rattle.accept.specs.Steps.{Reached, Taking, GoesOn, Stepped};
 
 use super::counts::{Progress, Step};
 use super::declare::declare;
 use super::key::NameKey;
 use super::tally::judge;
-use forms::{Entry, Section, read_line};
+use entries::{Entry, Section, read_line};
 use refusals::{Fault, Refusal};
 use slots::Slot;
 
@@ -37,12 +37,12 @@ impl Progress {
         slots: &mut [Slot<NameKey<'a>>],
         next: usize,
     ) -> Result<Progress, Fault>
-        requires valid_2 { Valid same_name name_hash slots.old }
+        requires valid_before { Valid same_name name_hash slots.old }
         requires run_in { RunIn entry }
-        requires leaves_bound { self.leaves ≤ 64 }
-        requires events_bound { self.events ≤ 12 }
-        requires rules_bound { self.rules ≤ 16 }
-        requires line_bound { self.line ≤ 29 }
+        requires few_leaves { self.leaves ≤ 64 }
+        requires few_events { self.events ≤ 12 }
+        requires few_rules { self.rules ≤ 16 }
+        requires few_lines { self.line ≤ 29 }
         ensures taken { Taking slots.old self entry.entry slots.new next result }
         ensures valid { Valid same_name name_hash slots.new }
     {
@@ -80,7 +80,7 @@ pub fn step_line<'a>(
     slots: &mut [Slot<NameKey<'a>>],
 ) -> Result<Step<'a>, Refusal>
     requires reached { (d : Draft) × Reached file.now d from slots.old }
-    requires goes_on { Goes_on file.now from }
+    requires goes_on { GoesOn file.now from }
     ensures { (d : Draft) → Reached file.now d from slots.old → Stepped file.now d from.at slots.new result }
 {
     let read = read_line(file, from.at, from.line, from.section)?;

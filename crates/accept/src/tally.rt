@@ -2,8 +2,8 @@
 ghost use Rattle.std.specs.Prelude.{◌≡◌, ◌+◌, ◌^◌, ◌<◌, ◌≤◌, false, ◌⊎◌, List, [], ◌∷◌, ◌++◌, MatchBool};
 ghost use Rattle.slots.specs.Maps.{Valid};
 ghost use Rattle.text.specs.Words.{closes, token_of, is_open, Run, IsToken};
-ghost use Rattle.forms.specs.Forms.{Form, words};
-ghost use Rattle.forms.specs.Reads.{Left};
+ghost use Rattle.entries.specs.Forms.{Form, words};
+ghost use Rattle.entries.specs.Reads.{Left};
 ghost use Rattle.accept.specs.Keys.{same_name, name_hash};
 ghost use Rattle.accept.specs.Drafts.{Leaf as LeafOf, leaves as leaves_of};
 ghost use Rattle.accept.specs.Tallies.{Constant, leaf_of, Naming, Tallied, Lowest, Judged};
@@ -12,7 +12,7 @@ use super::counts::Tally;
 use super::declare::lookup;
 use super::key::NameKey;
 use super::name::is_name;
-use forms::Passage;
+use entries::Passage;
 use refusals::Fault;
 use slots::Slot;
 use text::{Word, is_word};
@@ -29,7 +29,7 @@ impl Tally {
     fn naming<'a>(self, name: &'a [u8], slots: &[Slot<NameKey<'a>>]) -> Tally
         requires valid { Valid same_name name_hash slots.now }
         requires run { Run name.now }
-        requires leaves_bound { self.leaves < 2 ^ 63 }
+        requires few_leaves { self.leaves < 2 ^ 63 }
         ensures { Naming slots.now name.now self result }
     {
         let undeclared = lookup(slots, name).is_none();
@@ -45,7 +45,7 @@ impl Tally {
     fn with<'a>(self, word: Word<'a>, tight: bool, slots: &[Slot<NameKey<'a>>]) -> Tally
         requires valid { Valid same_name name_hash slots.now }
         requires token { IsToken (token_of word) }
-        requires leaves_bound { self.leaves < 2 ^ 63 }
+        requires few_leaves { self.leaves < 2 ^ 63 }
         ensures tally { (ls : List LeafOf) → Tallied slots.now ls self → Tallied slots.now (ls ++ leaf_of tight (token_of word.entry)) result }
         ensures few { result.leaves ≤ self.leaves + 1 }
     {
@@ -129,7 +129,7 @@ pub(crate) fn judge<'a>(
     leaves: u8,
 ) -> Result<u8, Fault>
     requires valid { Valid same_name name_hash slots.now }
-    requires leaves_bound { leaves ≤ 64 }
+    requires few_leaves { leaves ≤ 64 }
     ensures { (f : Form) → Left rule.entry.line.text.now rule.entry.at false (words f (closes ∷ [])) [] → Judged slots.now f rules leaves result }
 {
     let tally = survey(rule, slots);

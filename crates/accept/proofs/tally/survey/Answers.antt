@@ -13,8 +13,8 @@ returns-in-None c =
 pub loop-at-preserved : goal.loop-at-preserved
 loop-at-preserved c =
     let w = c.in-Some.ensures.word in (
-      seen_more c.args.rule.line.text.now c.args.rule.at c.args.slots.now c.loop-at.at c.loop-at.tight c.loop-at.tally c.loop-at.invariant.0 _ c.in-Some.next c.with-tally.result c.is-open-tight.result
-          w c.with-tally.ensures.tally c.is-open-tight.ensures c.loop-at-test.true,
+      seen_more c.args.rule.line.text.now c.args.rule.at c.args.slots.now c.loop-at.at c.loop-at.tight c.loop-at.tally c.loop-at.invariant.0 _ c.in-Some.next c.with-tally.result c.is_open-tight.result
+          w c.with-tally.ensures.tally c.is_open-tight.ensures c.loop-at-test.true,
       (let q = w.forth in let k = c.with-tally.ensures.few in omega arith),
     )
 

@@ -9,7 +9,7 @@ lines-init c =
 
 pub returns-in-Err : goal.returns-in-Err
 returns-in-Err c =
-    let (d, h) = c.lines.invariant.0 in walked_not c.args.file.now d c.lines.progress.at c.step-line.new.slots c.in-Err.refusal (c.in-Err.ensures d h)
+    let (d, h) = c.lines.invariant.0 in walked_not c.args.file.now d c.lines.progress.at c.step_line.new.slots c.in-Err.refusal (c.in-Err.ensures d h)
 
 pub lines-preserved : goal.lines-preserved
 lines-preserved c =
@@ -19,4 +19,4 @@ lines-preserved c =
 
 pub returns-then-progress-file : goal.returns-then-progress-file
 returns-then-progress-file c =
-    let (d, h) = c.lines.invariant.0 in walked c.args.file.now d c.lines.progress.at c.step-line.new.slots c.in-Ok.next (c.in-Ok.ensures d h) c.if-progress-file.true
+    let (d, h) = c.lines.invariant.0 in walked c.args.file.now d c.lines.progress.at c.step_line.new.slots c.in-Ok.next (c.in-Ok.ensures d h) c.if-progress-file.true

@@ -16,8 +16,8 @@ returns-in-Never c = record { tally = λ ls h. with_negated c.args.slots.now ls 
 pub returns-then-tight : goal.returns-then-tight
 returns-then-tight c = record { tally = λ ls h. with_none c.args.slots.now ls c.args.self h _ (ap (λ w. leaf_of c.args.tight (token_of w)) c.in-Name.is ∙ ap (λ b. leaf_of b (named c.in-Name.name.now)) c.if-tight.true); few = omega arith }
 
-pub returns-then-is-constant : goal.returns-then-is-constant
-returns-then-is-constant c = record { tally = λ ls h. with_constant c.args.slots.now ls c.args.self h _ c.in-Name.name.now (ap (λ w. leaf_of c.args.tight (token_of w)) c.in-Name.is ∙ ap (λ b. leaf_of b (named c.in-Name.name.now)) c.if-tight.false) c.if-is-constant.ensures; few = omega arith }
+pub returns-then-is_constant : goal.returns-then-is_constant
+returns-then-is_constant c = record { tally = λ ls h. with_constant c.args.slots.now ls c.args.self h _ c.in-Name.name.now (ap (λ w. leaf_of c.args.tight (token_of w)) c.in-Name.is ∙ ap (λ b. leaf_of b (named c.in-Name.name.now)) c.if-tight.false) c.if-is_constant.ensures; few = omega arith }
 
-pub returns-else-is-constant : goal.returns-else-is-constant
-returns-else-is-constant c = record { tally = λ ls h. with_bare c.args.slots.now ls c.args.self h _ c.in-Name.name.now _ (ap (λ w. leaf_of c.args.tight (token_of w)) c.in-Name.is ∙ ap (λ b. leaf_of b (named c.in-Name.name.now)) c.if-tight.false) c.if-is-constant.ensures c.naming-else-is-constant.ensures; few = omega arith }
+pub returns-else-is_constant : goal.returns-else-is_constant
+returns-else-is_constant c = record { tally = λ ls h. with_bare c.args.slots.now ls c.args.self h _ c.in-Name.name.now _ (ap (λ w. leaf_of c.args.tight (token_of w)) c.in-Name.is ∙ ap (λ b. leaf_of b (named c.in-Name.name.now)) c.if-tight.false) c.if-is_constant.ensures c.naming-else-is_constant.ensures; few = omega arith }
