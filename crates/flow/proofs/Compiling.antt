@@ -1,11 +1,10 @@
 -- What a flow holds, item by item.
-use Rattle.std.proofs.Common.{◌≡◌, ℕ, zero, suc, ◌+◌, ◌<◌, ◌≤◌, false, ◌⊎◌, List, [], ◌∷◌, ◌++◌, map, length, IfOk, Some, None, Ok, Err, vec_items, Option, Result, sym, refl, ap, ◌∙◌, subst, inl, inr, ⊎_elim, arith, length-append}
+use Rattle.std.proofs.Common.{◌≡◌, ℕ, zero, suc, ◌+◌, ◌<◌, ◌≤◌, false, List, [], ◌∷◌, ◌++◌, map, length, IfOk, None, Ok, Err, vec_items, Result, sym, refl, ap, ◌∙◌, subst, ⊎_elim, arith, length-append}
 use mathlib.Core.List.Memᴰ
 use mathlib.Core.List.{Memᴰ}
 use lib.ListN.{length-map}
-use Rattle.std.specs.List.{slice_get, flat_map}
+use Rattle.std.specs.List.{flat_map}
 use Rattle.std.proofs.lemmas.List.{map-append, flat_map_more}
-use Rattle.std.specs.declared.alloc.AllocError.{AllocError}
 use Rattle.algebra.specs.declared.literal.Literal.TheVariants.{Happened, Never}
 use Rattle.algebra.specs.declared.expr.Atom.TheVariants.{Lit, Yes, No}
 use Rattle.algebra.specs.declared.expr.Head.{Head}
@@ -18,25 +17,25 @@ use Rattle.sheet.specs.declared.grade.Event.{Event}
 use Rattle.slots.specs.declared.slot.Slot.{Slot}
 use Rattle.slots.specs.Maps.{Valid}
 use Rattle.text.specs.Words.{Token, closes}
-use Rattle.forms.specs.declared.line.Declaration.{Declaration}
-use Rattle.forms.specs.declared.line.Passage.{Passage}
-use Rattle.forms.specs.declared.line.Entry.{Entry}
-use Rattle.forms.specs.declared.line.Entry.TheVariants as entry
-use Rattle.forms.specs.Forms.{Form, plain, never, group, Chain, last, more, words, Fine}
-use Rattle.forms.specs.Items.{Declared, Item, event, rule}
-use Rattle.forms.specs.Reads.{Left}
-use Rattle.forms.specs.Entries.{Says}
+use Rattle.entries.specs.declared.line.Declaration.{Declaration}
+use Rattle.entries.specs.declared.line.Passage.{Passage}
+use Rattle.entries.specs.declared.line.Entry.{Entry}
+use Rattle.entries.specs.declared.line.Entry.TheVariants as entry
+use Rattle.entries.specs.Forms.{Form, plain, never, group, Chain, last, more, words, Fine}
+use Rattle.entries.specs.Items.{Declared, Item, event, rule}
+use Rattle.entries.specs.Reads.{Left}
+use Rattle.entries.specs.Entries.{Says}
 use Rattle.accept.specs.declared.key.NameKey.{NameKey}
 use Rattle.flow.specs.declared.built.Built.{Built}
 use Rattle.flow.specs.declared.flow.Flow.{Flow}
 use Rattle.accept.specs.Keys.{same_name, name_hash}
-use Rattle.accept.specs.Drafts.{leaves, leaves_of, Names, Draft, names, leaf_count, Declares, Apart, Keeps}
+use Rattle.accept.specs.Drafts.{leaves, leaves_of, Names, Draft, names, leaf_count, Apart, Keeps}
 use Rattle.accept.specs.Tallies.{Few, known}
-use Rattle.flow.specs.Of.{events_of, names_of, rules_of}
+use Rattle.flow.specs.Of.{names_of, rules_of}
 use Rattle.accept.specs.Drafts.{Found}
 use Rattle.accept.specs.Steps.{Knows, grown}
 use Rattle.flow.specs.Compiles.{Means, MeansAll, Each, Called, Compiled}
-use Rattle.flow.specs.Builds.{Entered, FormAt, Numbered, FormBuilt}
+use Rattle.flow.specs.Builds.{Entered, FormAt, FormBuilt}
 use Rattle.flow.specs.Gains.{EventGained, RuleGained, Gaining}
 use Rattle.accept.proofs.Growing.{found_none}
 
@@ -118,7 +117,7 @@ module _ (R : ℕ → List ℕ → Type 0) where
   -- the events of its literals have names
   module _ (k : ℕ) (low : (e : ℕ) (n : List ℕ) → R e n → e < k) where
     mutual
-      means_events : (f : Form) (x : Expr) → Means R f x → (e : ℕ) → Memᴰ e (algebra.eventsIn x) → e < k
+      means_events : (f : Form) (x : Expr) → Means R f x → (e : ℕ) → Memᴰ e (algebra.events_in x) → e < k
       means_events (plain n) (Leaf (Lit (Happened v)) i) m e at = low e n (subst (λ z. R z n) (sym (Memᴰ.eq_of_singleton at)) m)
       means_events (plain n) (Leaf (Lit (Never v)) i) m e at = absurd m
       means_events (plain n) (Leaf Yes i) m e at = absurd (Memᴰ.not-nil at)
@@ -130,12 +129,12 @@ module _ (R : ℕ → List ℕ → Type 0) where
       means_events (never n) (Leaf No i) m e at = absurd m
       means_events (never n) (Binary' g p x q y) m e at = absurd m
       means_events (group h f c) (Leaf a i) m e at = absurd m
-      means_events (group h f c) (Binary' g p x q y) (head, m, n) e at = ⊎_elim (means_events f x m e) (all_events h c y n e) (Memᴰ.append_cases (algebra.eventsIn x) at)
+      means_events (group h f c) (Binary' g p x q y) (head, m, n) e at = ⊎_elim (means_events f x m e) (all_events h c y n e) (Memᴰ.append_cases (algebra.events_in x) at)
 
-      all_events : (h : Head) (c : Chain) (x : Expr) → MeansAll R h c x → (e : ℕ) → Memᴰ e (algebra.eventsIn x) → e < k
+      all_events : (h : Head) (c : Chain) (x : Expr) → MeansAll R h c x → (e : ℕ) → Memᴰ e (algebra.events_in x) → e < k
       all_events h (last f) x m e at = means_events f x m e at
       all_events h (more f c) (Leaf a i) m e at = absurd m
-      all_events h (more f c) (Binary' g p x q y) (head, m, n) e at = ⊎_elim (means_events f x m e) (all_events h c y n e) (Memᴰ.append_cases (algebra.eventsIn x) at)
+      all_events h (more f c) (Binary' g p x q y) (head, m, n) e at = ⊎_elim (means_events f x m e) (all_events h c y n e) (Memᴰ.append_cases (algebra.events_in x) at)
 
 nth_below : (ns : List (List ℕ)) (e : ℕ) (n : List ℕ) → Called ns e n → e < length ns
 nth_below [] e n is = absurd (let z : ◌≡◌ {A = ℕ} 0 1 = cc in omega arith)
@@ -215,7 +214,7 @@ module _ (d : Draft) (f : Flow) (c : Compiled d f) where
       rule_means : Means (Called (names d)) r b.expr
       rule_means = means_weaker (Entered s) (Called (names d)) (entered_called s (names d) knows) r b.expr here.1
 
-      rule_room : (length (rules_of f) < 16) × NumberedOn (rules_of f ++ (b.expr ∷ [])) × ((e : ℕ) → Memᴰ e (algebra.eventsIn b.expr) → e < length (vec_items f.events))
+      rule_room : (length (rules_of f) < 16) × NumberedOn (rules_of f ++ (b.expr ∷ [])) × ((e : ℕ) → Memᴰ e (algebra.events_in b.expr) → e < length (vec_items f.events))
       rule_room = (
         (let a = each_length (Called (names d)) d.rules (rules_of f) c.rules_are in let m = k.few_rules in let e = length-append d.rules (r ∷ []) in omega arith),
         numbered_push (rules_of f) b.expr f.rules.numbered (subst (λ z. Counts z (algebra.leaves b.expr)) is here.2.counts),
@@ -249,7 +248,7 @@ module _ (d : Draft) (s : List (Slot NameKey)) (f : Flow) where
         (g.knows.valid, rule_ready d f g.compiled s r g.keeps g.knows first count y.line.text.now y.at (subst (λ w. Says w (rule r)) is g.says))
 
     module _ (y : Passage) (b : Built) (built : (g : Form) (ts : List Token) (o : List ℕ) → Fine g 8 → Left y.line.text.now y.at false (words g ts) o → FormBuilt s first y.line.text.now g ts o (Ok b)) where
-      pub may_state : (i : Item) (z : Entry) → z ≡ entry.Rule y → Gaining d i z s f → (length (rules_of f) < 16) × NumberedOn (rules_of f ++ (b.expr ∷ [])) × ((e : ℕ) → Memᴰ e (algebra.eventsIn b.expr) → e < length (vec_items f.events))
+      pub may_state : (i : Item) (z : Entry) → z ≡ entry.Rule y → Gaining d i z s f → (length (rules_of f) < 16) × NumberedOn (rules_of f ++ (b.expr ∷ [])) × ((e : ℕ) → Memᴰ e (algebra.events_in b.expr) → e < length (vec_items f.events))
       may_state (event x) z is g = absurd (subst (λ w. Says w (event x)) is g.says)
       may_state (rule r) z is g = rule_room d f g.compiled s r g.keeps g.knows first count y.line.text.now y.at (subst (λ w. Says w (rule r)) is g.says) b built
 

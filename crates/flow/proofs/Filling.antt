@@ -1,16 +1,15 @@
 -- A flow that is filled from an accepted file.
-use Rattle.std.proofs.Common.{◌≡◌, ℕ, ◌<◌, ◌≤◌, List, [], ◌∷◌, map, length, Ok, Err, vec_items, sym, refl, ap, ◌∙◌, subst, arith}
+use Rattle.std.proofs.Common.{◌≡◌, ℕ, ◌≤◌, List, [], length, Ok, Err, sym, ap, subst, arith}
 use Rattle.slots.specs.declared.slot.Slot.{Slot}
-use Rattle.forms.specs.Items.{Item}
 use Rattle.accept.specs.declared.key.NameKey.{NameKey}
 use Rattle.accept.specs.declared.counts.Step.{Step}
 use Rattle.flow.specs.declared.flow.Flow.{Flow}
 use Rattle.refusals.specs.declared.refusal.Refusal.{Refusal}
 use Rattle.refusals.specs.declared.refusal.Refusal.TheVariants.{TooLong, Line}
 use Rattle.flow.specs.Events.{names_in, told_in}
-use Rattle.accept.specs.Drafts.{Draft, names}
-use Rattle.accept.specs.Outcomes.{Outcome, accepted, refused, ComesTo}
-use Rattle.flow.specs.Of.{rules_of, IsEmpty}
+use Rattle.accept.specs.Drafts.{Draft}
+use Rattle.accept.specs.Outcomes.{accepted, refused, ComesTo}
+use Rattle.flow.specs.Of.{IsEmpty}
 use Rattle.accept.specs.Steps.{grown, Stepped}
 use Rattle.flow.specs.Compiles.{Each, Called, Compiled}
 use Rattle.flow.specs.Gains.{Gaining}

@@ -1,13 +1,13 @@
 -- Flows with one event or one rule more.
-use Rattle.std.proofs.Common.{◌≡◌, ℕ, ◌+◌, ◌<◌, ◌≤◌, Bool, true, false, cond, not, ◌&&◌, T, ◌⊎◌, List, [], ◌∷◌, ◌++◌, map, length, Ok, Err, Result, sym, refl, ap, ◌∙◌, subst, inl, inr, ⊎_elim, arith, length-append}
+use Rattle.std.proofs.Common.{◌≡◌, ℕ, ◌<◌, ◌≤◌, Bool, true, false, cond, ◌⊎◌, List, [], ◌∷◌, ◌++◌, length, Ok, Err, Result, sym, subst, inl, inr, ⊎_elim, arith, length-append}
 use mathlib.Core.List.Memᴰ
 use mathlib.Core.List.{Memᴰ}
-use Rattle.std.specs.List.{flat_map, list_all}
-use Rattle.std.specs.Map.Invariant.{is-distinct}
+use Rattle.std.specs.List.{flat_map, AllByRecursion, IsDistinct}
 use Rattle.std.specs.Str.{bytes_eq}
 use Rattle.std.proofs.lemmas.Slice.Eq.{bytes_eq-Decides}
 use Rattle.std.proofs.lemmas.List.{map-append, flat_map_more}
 use Rattle.std.proofs.lemmas.Bool.{cases_Bool}
+use Rattle.std.proofs.lemmas.Map.Keys.{IsDistinct-head, IsDistinct-tail, IsDistinct-cons}
 use Rattle.algebra.specs.declared.expr.Expr.{Expr}
 use Rattle.algebra.specs.declared.rules.RulesError.{RulesError}
 use Rattle.algebra.specs.declared.rules.RulesError.TheVariants.{Misnumbered, Memory}
@@ -16,29 +16,23 @@ use Rattle.algebra.specs.Expressions.{events_in}
 use Rattle.flow.specs.declared.event.NamedEvent.{NamedEvent}
 use Rattle.flow.specs.Events.{name_of, names_in, Distinct, Within}
 
-both : (a b : Bool) → T a → T b → T (a && b)
-both true b p q = q
-both false b p q = absurd p
+not_same : (x n : List ℕ) → (x ≡ n → ⊥) → bytes_eq x n ≡ false
+not_same x n ne = elim (cases_Bool (bytes_eq x n)) [ inl e ↦ absurd (ne ((bytes_eq-Decides x n).0 e)) | inr e ↦ e ]
 
-parts : (a b : Bool) → T (a && b) → T a × T b
-parts true b p = (tt, p)
-parts false b p = absurd p
+pub distinct_none : Distinct []
+unfolding IsDistinct
+distinct_none = tt
 
-not_same : (x n : List ℕ) → (x ≡ n → ⊥) → T (not (bytes_eq x n))
-not_same x n ne = elim (cases_Bool (bytes_eq x n)) [ inl e ↦ absurd (ne ((bytes_eq-Decides x n).0 e)) | inr e ↦ subst (λ b. T (not b)) (sym e) tt ]
-
-pass_more : (p : List ℕ → Bool) (xs : List (List ℕ)) (n : List ℕ) → T (list_all p xs) → T (p n) → T (list_all p (xs ++ (n ∷ [])))
-pass_more p [] n all here = both (p n) true here tt
-pass_more p (x ∷ xs) n all here =
-    let q = parts (p x) (list_all p xs) all in both (p x) (list_all p (xs ++ (n ∷ []))) q.0 (pass_more p xs n q.1 here)
+pass_more : (p : List ℕ → Bool) (xs : List (List ℕ)) (n : List ℕ) → AllByRecursion (λ x. p x ≡ false) xs → p n ≡ false → AllByRecursion (λ x. p x ≡ false) (xs ++ (n ∷ []))
+pass_more p [] n all here = (here, tt)
+pass_more p (x ∷ xs) n all here = (all.0, pass_more p xs n all.1 here)
 
 distinct_more : (ns : List (List ℕ)) (n : List ℕ) → Distinct ns → (Memᴰ n ns → ⊥) → Distinct (ns ++ (n ∷ []))
-distinct_more [] n d out = tt
+distinct_more [] n d out = IsDistinct-cons bytes_eq n [] tt d
 distinct_more (x ∷ ns) n d out =
-    let q = parts (list_all (λ y. not (bytes_eq x y)) ns) (is-distinct bytes_eq ns) d in
-    both (list_all (λ y. not (bytes_eq x y)) (ns ++ (n ∷ []))) (is-distinct bytes_eq (ns ++ (n ∷ [])))
-    (pass_more (λ y. not (bytes_eq x y)) ns n q.0 (not_same x n (λ e. out (Memᴰ.head (sym e)))))
-    (distinct_more ns n q.1 (λ m. out (Memᴰ.tail m)))
+    IsDistinct-cons bytes_eq x (ns ++ (n ∷ []))
+    (pass_more (bytes_eq x) ns n (IsDistinct-head bytes_eq x ns d) (not_same x n (λ e. out (Memᴰ.head (sym e)))))
+    (distinct_more ns n (IsDistinct-tail bytes_eq x ns d) (λ m. out (Memᴰ.tail m)))
 
 -- the events after a push, which may fail
 module _ (es : List NamedEvent) (x : NamedEvent) (few : length es < 12) (apart : Distinct (names_in es)) (new : Memᴰ (name_of x) (names_in es) → ⊥) where

@@ -11,7 +11,7 @@
 --     ChainBuilt s h k bs c ts o r     the same of the further members c of a group with the head h
 --     Pair h x y z         the expression z has the head h and the parts x and y
 --     Paired h one two b   b is the expression of the head h with the parts one and two, behind which it ends
-use Rattle.std.specs.Prelude.{◌≡◌, ℕ, ◌+◌, ◌<◌, ◌≤◌, Bool, true, false, List, ◌∷◌, length, Some, None, Ok, Err, codes, Result, ◌≢◌}
+use Rattle.std.specs.Prelude.{◌≡◌, ℕ, ◌+◌, ◌≤◌, Bool, true, false, List, ◌∷◌, length, Some, None, Ok, Err, codes, Result, ◌≢◌}
 use Rattle.std.specs.declared.alloc.AllocError.{AllocError}
 use Rattle.algebra.specs.declared.leaf.LeafNumber.{LeafNumber}
 use Rattle.algebra.specs.declared.literal.Literal.TheVariants.{Happened, Never}
@@ -24,8 +24,8 @@ use Rattle.algebra.specs.Expressions as algebra
 use Rattle.algebra.specs.Rules.{Counts}
 use Rattle.slots.specs.declared.slot.Slot.{Slot}
 use Rattle.text.specs.Words.{Token, named}
-use Rattle.forms.specs.Forms.{head_text, Form, group, Chain, words, chain, Fine, Fines}
-use Rattle.forms.specs.Reads.{Left}
+use Rattle.entries.specs.Forms.{head_text, Form, group, Chain, words, chain, Fine, Fines}
+use Rattle.entries.specs.Reads.{Left}
 use Rattle.accept.specs.declared.key.NameKey.{NameKey}
 use Rattle.flow.specs.declared.built.Built.{Built}
 use Rattle.accept.specs.Drafts.{Leaf, leaves, leaves_of}

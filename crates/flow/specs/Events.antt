@@ -4,11 +4,10 @@
 --     told_in es            what a sheet tells of the events es, in their order
 --     Distinct ns          no two of the names ns are the same
 --     Within n xs          the literals of the rules xs speak of the first n events alone
-use Rattle.std.specs.Prelude.{ℕ, ◌<◌, T, List, map, vec_items}
+use Rattle.std.specs.Prelude.{ℕ, ◌<◌, List, map, vec_items}
 use mathlib.Core.List.{Memᴰ}
-use Rattle.std.specs.Map.Invariant.{is-distinct}
 use Rattle.std.specs.Str.{bytes_eq}
-use Rattle.std.specs.List.{flat_map}
+use Rattle.std.specs.List.{flat_map, IsDistinct}
 use Rattle.algebra.specs.declared.expr.Expr.{Expr}
 use Rattle.algebra.specs.Expressions.{events_in}
 use Rattle.sheet.specs.declared.grade.Event.{Event}
@@ -24,7 +23,7 @@ abbrev pub told_in : List NamedEvent → List Event
 told_in es = map (λ e. e.event) es
 
 abbrev pub Distinct : List (List ℕ) → Type 0
-Distinct ns = T (is-distinct bytes_eq ns)
+Distinct ns = IsDistinct bytes_eq ns
 
 abbrev pub Within : ℕ → List Expr → Type 0
 Within n xs = (e : ℕ) → Memᴰ e (flat_map events_in xs) → e < n

@@ -6,9 +6,9 @@ use Rattle.std.specs.Prelude.{◌≡◌, ℕ, List, [], ◌∷◌, ◌++◌}
 use Rattle.algebra.specs.declared.expr.Expr.{Expr}
 use Rattle.sheet.specs.declared.grade.Event.{Event}
 use Rattle.slots.specs.declared.slot.Slot.{Slot}
-use Rattle.forms.specs.declared.line.Entry.{Entry}
-use Rattle.forms.specs.Items.{Item}
-use Rattle.forms.specs.Entries.{Says}
+use Rattle.entries.specs.declared.line.Entry.{Entry}
+use Rattle.entries.specs.Items.{Item}
+use Rattle.entries.specs.Entries.{Says}
 use Rattle.accept.specs.declared.key.NameKey.{NameKey}
 use Rattle.flow.specs.declared.flow.Flow.{Flow}
 use Rattle.accept.specs.Drafts.{Draft, names, Keeps}

@@ -20,7 +20,7 @@ abbrev pub names_of : Flow → List (List ℕ)
 names_of f = names_in (vec_items f.events)
 
 abbrev pub rules_of : Flow → List Expr
-rules_of f = algebra.rulesOf f.rules
+rules_of f = algebra.rules_of f.rules
 
 abbrev pub IsEmpty : Flow → Type 0
 IsEmpty f = (vec_items f.events ≡ []) × (rules_of f ≡ [])

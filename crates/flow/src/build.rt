@@ -3,7 +3,7 @@ ghost use Rattle.std.specs.Prelude.{◌≡◌, ℕ, ◌<◌, [], ◌∷◌, ◌+
 ghost use mathlib.Core.List.{Memᴰ};
 ghost use Rattle.algebra.specs.Expressions.{events_in};
 ghost use Rattle.algebra.specs.Rules.{NumberedOn};
-ghost use Rattle.forms.specs.Items.{Item};
+ghost use Rattle.entries.specs.Items.{Item};
 ghost use Rattle.accept.specs.Drafts.{Draft};
 ghost use Rattle.accept.specs.Steps.{grown};
 ghost use Rattle.flow.specs.Compiles.{Compiled};
@@ -15,7 +15,7 @@ use super::event::NamedEvent;
 use super::flow::Flow;
 use accept::NameKey;
 use algebra::{Expr, RulesError};
-use forms::{Declaration, Entry};
+use entries::{Declaration, Entry};
 use slots::Slot;
 use std::alloc::{AllocError, Global};
 
@@ -29,8 +29,8 @@ fn copied(heap: Global, name: &[u8]) -> Result<Vec<u8>, AllocError>
 impl Flow {
     // Adds an event behind the others.
     fn add_event(&mut self, heap: Global, declaration: Declaration) -> Result<(), AllocError>
-        requires events_len_bound { length self.old.events.items < 12 }
-        requires fact { Memᴰ declaration.name.now (names_of self.old) → ⊥ }
+        requires few { length self.old.events.items < 12 }
+        requires undeclared { Memᴰ declaration.name.now (names_of self.old) → ⊥ }
         ensures { OnOk result (EventGained self.old declaration.entry.name.now declaration.entry.event self.new) }
     {
         let name = copied(heap, declaration.name)?;
@@ -43,9 +43,9 @@ impl Flow {
 
     // Adds a rule behind the others.
     fn add_rule(&mut self, rule: Expr) -> Result<(), AllocError>
-        requires self_len_bound { length (rules_of self.old) < 16 }
+        requires few { length (rules_of self.old) < 16 }
         requires numbered_on { NumberedOn (rules_of self.old ++ (rule ∷ [])) }
-        requires by_index { (e : ℕ) → Memᴰ e (events_in rule) → e < length self.old.events.items }
+        requires declared { (e : ℕ) → Memᴰ e (events_in rule) → e < length self.old.events.items }
         ensures { OnOk result (RuleGained self.old rule self.new) }
     {
         match self.rules.push(rule) {

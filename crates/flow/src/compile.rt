@@ -3,8 +3,8 @@ ghost use Rattle.std.specs.Prelude.{◌≡◌, ℕ, ◌+◌, ◌<◌, true, fals
 ghost use Rattle.algebra.specs.declared.expr.Head.{Head as HeadOf};
 ghost use Rattle.slots.specs.Maps.{Valid};
 ghost use Rattle.text.specs.Words.{Token, named};
-ghost use Rattle.forms.specs.Forms.{head_text, Form, group as group_of, Chain, words, chain, Fine, Fines};
-ghost use Rattle.forms.specs.Reads.{Left};
+ghost use Rattle.entries.specs.Forms.{head_text, Form, group as group_of, Chain, words, chain, Fine, Fines};
+ghost use Rattle.entries.specs.Reads.{Left};
 ghost use Rattle.accept.specs.Keys.{same_name, name_hash};
 ghost use Rattle.accept.specs.Tallies.{Few, known};
 ghost use Rattle.flow.specs.Builds.{AtomAt, AtomOf, LeafBuilt, FormAt, GroupAt, MembersAt, FormBuilt, ChainBuilt, Paired};
@@ -12,7 +12,7 @@ ghost use Rattle.flow.specs.Builds.{AtomAt, AtomOf, LeafBuilt, FormAt, GroupAt, 
 use super::built::Built;
 use accept::{NameKey, event_of};
 use algebra::{Atom, Expr, Head, LeafNumber, Literal};
-use forms::{close_at, head_at};
+use entries::{close_at, head_at};
 use slots::Slot;
 use std::alloc::{AllocError, Global};
 use text::{Line, Word, is_word};

@@ -1,5 +1,6 @@
 // The compiled flow.
 ghost use Rattle.std.specs.Prelude.{◌≤◌, length};
+ghost use Rattle.std.proofs.Props.{props};
 ghost use Rattle.algebra.specs.Of.{rules_of};
 ghost use Rattle.flow.specs.Events.{names_in, Distinct, Within};
 
@@ -16,6 +17,6 @@ pub struct Flow {
     pub(crate) rules: Rules,
     ghost few_events: { length events.items ≤ 12 },
     ghost few_rules: { length (rules_of rules) ≤ 16 },
-    ghost apart: { Distinct (names_in events.items) },
+    ghost apart: { Distinct (names_in events.items) } by { Prim.hlevel props },
     ghost declared: { Within (length events.items) (rules_of rules) },
 }

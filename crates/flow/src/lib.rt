@@ -1,4 +1,6 @@
 // The compiled flow, and reading flow files into it: the flow reader.
+#![tactic(auto)]
+
 mod build;
 mod built;
 mod compile;

@@ -1,29 +1,32 @@
-use Rattle.std.proofs.Common.{◌≡◌, ◌≤◌, [], ◌∷◌, ◌++◌, length, is_ok, vec_items, sym, refl, ap, ◌∙◌, subst, arith}
+use Rattle.std.proofs.Common.{◌≤◌, [], ◌∷◌, ◌++◌, length, is_ok, vec_items, sym, refl, ap, ◌∙◌, subst, arith}
 use mathlib.Core.List.{Memᴰ}
 use Rattle.std.proofs.lemmas.List.{map-append}
-use Rattle.flow.specs.Events.{name_of, names_in, told_in, Distinct, Within}
+use Rattle.flow.specs.Events.{name_of, names_in, told_in, Distinct}
 use Rattle.flow.specs.Of.{names_of}
 use Rattle.flow.proofs.Gaining.{events_kept}
 use Rattle.flow.proofs.flow.Flow.add_event.Goals as goal
 
-pub invariant-of-self : goal.invariant-of-self
-invariant-of-self c =
+pub invariant_of-self : goal.invariant_of-self
+invariant_of-self c =
     let f = c.args.self.now in
     let is = c.push.ensures.items in
     let kept =
-    events_kept (vec_items f.events) (record { name = c.in-ok-name.name; event = c.args.declaration.event }) c.requires.0 f.apart
-    (λ m. c.requires.1 (subst (λ n. Memᴰ n (names_of f)) c.in-ok-name.ensures m))
-    (is_ok c.push.result) in (
-      subst (λ es. length es ≤ 12) (sym is) kept.0,
-      (f.few_rules, (subst (λ es. Distinct (names_in es)) (sym is) kept.1, ((λ e m. let q = f.declared e m in let r = ap length is in let k = kept.2 in omega arith), tt))),
-    )
+    events_kept (vec_items f.events) (record { name = c.in_ok-name.name; event = c.args.declaration.event }) c.requires.few f.apart
+    (λ m. c.requires.undeclared (subst (λ n. Memᴰ n (names_of f)) c.in_ok-name.ensures m))
+    (is_ok c.push.result) in
+    record {
+      few_events = subst (λ es. length es ≤ 12) (sym is) kept.0;
+      few_rules = f.few_rules;
+      apart = subst (λ es. Distinct (names_in es)) (sym is) kept.1;
+      declared = λ e m. let q = f.declared e m in let r = ap length is in let k = kept.2 in omega arith;
+    }
 
 pub returns : goal.returns
 returns c =
     let es = vec_items c.args.self.now.events in
-    let is = c.in-ok-push.ensures.items in
+    let is = c.in_ok-push.ensures.items in
     record {
-      names_are = ap names_in is ∙ map-append name_of es (_ ∷ []) ∙ ap (λ n. names_in es ++ (n ∷ [])) c.in-ok-name.ensures;
+      names_are = ap names_in is ∙ map-append name_of es (_ ∷ []) ∙ ap (λ n. names_in es ++ (n ∷ [])) c.in_ok-name.ensures;
       events_are = ap told_in is ∙ map-append (λ e. e.event) es (_ ∷ []);
       rules_are = refl;
     }
