@@ -1,0 +1,4 @@
+mod Reading
+mod Printing
+mod Walking
+mod Showing

@@ -1,0 +1,11 @@
+// The bytes that the program prints.
+#![tactic(auto)]
+
+pub mod file;
+pub mod lines;
+pub mod literal;
+pub mod walk;
+
+pub use file::{checked, explain_file, refused};
+pub use lines::settle;
+pub use walk::{Outcome, Report, explain_words, left};
