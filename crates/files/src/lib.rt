@@ -1,6 +1,8 @@
 // Flow files and what becomes of them: tests over tables of small files, over long files, and over random
 // files, which a second reader judges too.
 
+#![tactic(auto)]
+
 #[cfg(test)]
 mod long;
 #[cfg(test)]
@@ -11,3 +13,5 @@ mod random;
 mod said;
 #[cfg(test)]
 mod small;
+#[cfg(test)]
+mod told;

@@ -244,15 +244,20 @@ mod tests {
         heap: Global,
         row: &Filled,
         length: usize,
+        number: usize,
     ) -> Result<(), Fail> {
         let file = filled(heap, row, length)?;
-        assert_eq!(rt; file.len(), length);
+        assert_eq!(rt; file.len(), length, "{length} bytes of row {number}");
         let said = if length > 16_384 {
             Refused(1, 0)
         } else {
             row.3
         };
-        assert_eq!(rt; judged(rt, file.as_slice())?, said);
+        assert_eq!(rt;
+            judged(rt, file.as_slice())?,
+            said,
+            "{length} bytes of row {number}"
+        );
         Ok(())
     }
 
@@ -260,9 +265,7 @@ mod tests {
     fn a_file_has_16384_bytes_at_most(rt: HostRuntime) -> Result<(), Fail> {
         for (number, row) in FILLED.iter().enumerate() {
             for length in [16_383, 16_384, 16_385, 70_000] {
-                length_counts(&rt, rt.alloc(), row, length).note(format_args!(
-                    "{length} bytes of row {number}"
-                ))?;
+                length_counts(&rt, rt.alloc(), row, length, number)?;
             }
         }
         Ok(())
