@@ -1,19 +1,19 @@
 -- What a flow file says, and the conditions that it keeps. Assumes nothing.
---     reserved, Reserved n     the eleven words that are no names; n is one of them
---     IsName n             n is a name: 1 to 16 letters, digits and hyphens, a letter first, and not reserved
---     Leaf                 a leaf as it is written: a word, or a word behind `~`
---     leaves f             the leaves of the form f, as written
---     LeafName l n         the leaf l names the event n: every leaf does, but the words yes and no without `~`
---     Names f n            some leaf of the form f names the event n
---     Draft                what a file says: the events that it declares, and its rules
---     names d, leaf_count d     the names of its events; how many leaves its rules have together
---     event_line x, rule_line f  the bytes of a line, with its line feed
---     rendered d           the bytes of the draft d: a line for each event and then for each rule, a line feed behind each
+--     reserved, Reserved n          the eleven words that are no names; n is one of them
+--     IsName n                      n is a name: 1 to 16 letters, digits and hyphens, a letter first, and not reserved
+--     Leaf                          a leaf as it is written: a word, or a word behind `~`
+--     leaves f                      the leaves of the form f, as written
+--     LeafName l n                  the leaf l names the event n: every leaf does, but the words yes and no without `~`
+--     Names f n                     some leaf of the form f names the event n
+--     Draft                         what a file says: the events that it declares, and its rules
+--     names d, leaf_count d         the names of its events; how many leaves its rules have together
+--     event_line x, rule_line f     the bytes of a line, with its line feed
+--     rendered d                    the bytes of the draft d: a line for each event and then for each rule, a line feed behind each
 --     section_of xs fs, section d   how far a file has come that says d
---     Declares d n         the draft d declares an event with the name n
---     Apart ns             no name stands twice in ns
---     Found ns n r         r is the number of the name n among ns; absent if it is not among them
---     Keeps d              the draft d keeps every condition of a flow
+--     Declares d n                  the draft d declares an event with the name n
+--     Apart ns                      no name stands twice in ns
+--     Found ns n r                  r is the number of the name n among ns; absent if it is not among them
+--     Keeps d                       the draft d keeps every condition of a flow
 use Rattle.std.specs.Prelude.{◌≡◌, ℕ, ◌<◌, ◌≤◌, List, [], ◌∷◌, ◌++◌, map, length, Some, None, codes, Option, ◌≢◌, slice_index}
 use mathlib.Core.List.{Memᴰ}
 use Rattle.std.specs.List.{slice_get, flat_map}

@@ -1,8 +1,8 @@
 -- Names as keys of a map. Assumes nothing.
---     same_name a b         two names are the same bytes
---     mixed h b            one round of the hash FNV-1a, over the byte b
---     hash_of bs, name_hash a    the hash of some bytes; of a name
---     name_laws            sameness of names is an equivalence, and same names share their hash
+--     same_name a b             two names are the same bytes
+--     mixed h b                 one round of the hash FNV-1a, over the byte b
+--     hash_of bs, name_hash a   the hash of some bytes; of a name
+--     name_laws                 sameness of names is an equivalence, and same names share their hash
 use Rattle.std.specs.Prelude.{◌≡◌, ℕ, ◌*◌, ◌%◌, ◌^◌, Bool, true, List, fold, bit_xor, refl}
 use Rattle.std.proofs.Common.{sym, ap, ◌∙◌}
 use Rattle.std.specs.Str.{bytes_eq}

@@ -1,7 +1,7 @@
 -- What becomes of a flow file. Assumes nothing.
 --     Holds i n                the item i holds the name n: an event's own, or one that a leaf names
 --     OneTooMany d i           with the item i there would be 13 events, 17 rules or 65 leaves
---     LineSays d line tail i  the line that follows the draft d says the item i, and a line feed ends it
+--     LineSays d line tail i   the line that follows the draft d says the item i, and a line feed ends it
 --     Faulty d line tail k     the line that follows the draft d, and that tail follows, has the fault k, by its number:
 --                              2 a byte stands in no flow file; 3 it says no item that may come; 4 a name in it is no name;
 --                              5 it declares an event again; 6 a name in it is not declared above; 7 it is event 13 or rule 17,
@@ -10,8 +10,8 @@
 --                              keeps the conditions, and k is its fault of the lowest number. A file ends behind its last line
 --                              feed, but an empty file has one line, which is empty
 --     Outcome                  a file is accepted, and says a draft, or it is refused
---     ComesTo bs o            the outcome of the file bs is o
---     OneOutcome              a file has one outcome at most
+--     ComesTo bs o             the outcome of the file bs is o
+--     OneOutcome               a file has one outcome at most
 use Rattle.std.specs.Prelude.{◌≡◌, ℕ, ◌+◌, ◌<◌, ◌≤◌, ◌⊎◌, List, [], ◌++◌, length}
 use Rattle.text.specs.Lines.{FirstLine, ended, Strange}
 use Rattle.entries.specs.Forms.{Form}

@@ -2,10 +2,10 @@
 --     Knows s ns           the slots s map the names ns to their numbers, and no other name; there are twelve
 --     Reached bs d p s     the file bs was read up to p, its lines say the draft d, and the slots s have its names
 --     grown d i            the draft d with the item i behind it
---     after_event p n       the progress p with one event more, where the next line begins at n
---     after_rule p n k      the progress p with one rule more, and k leaves in all
+--     after_event p n      the progress p with one event more, where the next line begins at n
+--     after_rule p n k     the progress p with one rule more, and k leaves in all
 --     Taking s p x t n r   asked to take the entry x at p, the reader answers r and leaves the slots t, where it had s
---     GoesOn bs p         a line begins at p: bytes are left, or the file is empty
+--     GoesOn bs p          a line begins at p: bytes are left, or the file is empty
 --     Stepped bs d t r     the line behind those of the draft d says an item that may be taken, or r is its fault
 use Rattle.std.specs.Prelude.{◌≡◌, ℕ, ◌+◌, ◌<◌, ◌≤◌, false, ◌⊎◌, List, [], ◌∷◌, ◌++◌, length, drop, Ok, Err, Result}
 use Rattle.slots.specs.declared.slot.Slot.{Slot}

@@ -1,16 +1,16 @@
 -- What the flow reader answers of the leaves of a rule. Assumes nothing.
---     known s n            the number of the event with the name n, by the slots s; absent if there is none
---     Few s                the slots s map names to the first twelve events alone
---     Constant n           n is one of the words that name no event where they stand without `~`
---     Mentions ls n        one of the leaves ls names the event n
---     leaf_of tight t       the leaf that the token t is, if it is one: a name right behind an opening bracket is a head
---     leaves_in tight ts    the leaves among the tokens ts
---     Tallied s ls t       the tally t is that of the leaves ls
---     Naming s n t u       u is the tally t with one leaf more, which names the event n
---     Lowest t b r         r is the fault of the lowest number by the tally t, where b says that there are too many rules or leaves
---     WellNamed s f, AllKnown s f  each name in the rule f is a name; each is that of an event, by the slots s
---     Judged s f rules leaves r    r says how many leaves there are with those of the rule f, which follows so many rules and
---                          leaves, or the fault of the lowest number from 4 on that it has
+--     known s n                     the number of the event with the name n, by the slots s; absent if there is none
+--     Few s                         the slots s map names to the first twelve events alone
+--     Constant n                    n is one of the words that name no event where they stand without `~`
+--     Mentions ls n                 one of the leaves ls names the event n
+--     leaf_of tight t               the leaf that the token t is, if it is one: a name right behind an opening bracket is a head
+--     leaves_in tight ts            the leaves among the tokens ts
+--     Tallied s ls t                the tally t is that of the leaves ls
+--     Naming s n t u                u is the tally t with one leaf more, which names the event n
+--     Lowest t b r                  r is the fault of the lowest number by the tally t, where b says that there are too many rules or leaves
+--     WellNamed s f, AllKnown s f   each name in the rule f is a name; each is that of an event, by the slots s
+--     Judged s f rules leaves r     r says how many leaves there are with those of the rule f, which follows so many rules and
+--                                   leaves, or the fault of the lowest number from 4 on that it has
 use Rattle.std.specs.Prelude.{◌≡◌, ℕ, ◌+◌, ◌<◌, ◌≤◌, Bool, true, false, cond, ◌⊎◌, List, [], ◌∷◌, ◌++◌, length, Some, None, Ok, Err, codes, MatchBool, Option, Result, ◌≢◌}
 use mathlib.Core.List.{Memᴰ}
 use Rattle.std.specs.Str.{bytes_eq}

@@ -1,15 +1,15 @@
 -- What the lines of a flow file say, and how they are written. Assumes nothing.
---     grade_text g              the word of a grade
---     Declared                 an event as it is declared: its name, and what a sheet tells of it
---     Item                     what one line says: it declares an event, or states a rule
---     forcibly b ts            the word that says that an event is forcible, if b, and then ts
---     item_words i              the words of the item i
---     FineItem i               the form of the item i is lawful: runs of bytes as names, and a rule's heads at most 8 deep,
---                              with 2 to 8 members each
---     render i                 the bytes of the item i, without the line feed that ends its line
---     Section                  how far a file has come: no line yet, event lines alone, or rule lines too
---     Comes s i                the item i may come next: events before rules, and an event first
---     Shaped s line feed i     the line says the item i, which may come next, and a line feed ends it, which feed says
+--     grade_text g           the word of a grade
+--     Declared               an event as it is declared: its name, and what a sheet tells of it
+--     Item                   what one line says: it declares an event, or states a rule
+--     forcibly b ts          the word that says that an event is forcible, if b, and then ts
+--     item_words i           the words of the item i
+--     FineItem i             the form of the item i is lawful: runs of bytes as names, and a rule's heads at most 8 deep,
+--                            with 2 to 8 members each
+--     render i               the bytes of the item i, without the line feed that ends its line
+--     Section                how far a file has come: no line yet, event lines alone, or rule lines too
+--     Comes s i              the item i may come next: events before rules, and an event first
+--     Shaped s line feed i   the line says the item i, which may come next, and a line feed ends it, which feed says
 use Rattle.std.specs.Prelude.{◌≡◌, ℕ, Bool, true, false, List, [], ◌∷◌, codes}
 use Rattle.sheet.specs.declared.grade.Grade.{Grade}
 use Rattle.sheet.specs.declared.grade.Grade.TheVariants.{Flexible, Inevitable, Immediate}

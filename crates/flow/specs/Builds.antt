@@ -1,16 +1,16 @@
 -- What compiling an expression answers. Assumes nothing.
---     Entered s e n        the slots s map the name n to the event e
---     Ready s k ls         the names of the leaves ls are in the slots s, and they can be numbered from k on
---     AtomAt s n           the word n can be compiled as a leaf
---     AtomOf s n a         the atom a is what the leaf n says, without `~`
---     LeafBuilt a k e b    b is the leaf of the number k that says a, and its text ends at e
---     FormAt, GroupAt, MembersAt   a form stands at place a of the text bs, ready to be compiled; a group, behind its opening bracket;
---                          the further members of a group
---     Numbered k x n       the leaves of the expression x are numbered from k on, and there are n
---     FormBuilt s k bs f ts o r    r is the form f compiled, which the tokens ts and the bytes o follow, and where it ends
---     ChainBuilt s h k bs c ts o r     the same of the further members c of a group with the head h
---     Pair h x y z         the expression z has the head h and the parts x and y
---     Paired h one two b   b is the expression of the head h with the parts one and two, behind which it ends
+--     Entered s e n                  the slots s map the name n to the event e
+--     Ready s k ls                   the names of the leaves ls are in the slots s, and they can be numbered from k on
+--     AtomAt s n                     the word n can be compiled as a leaf
+--     AtomOf s n a                   the atom a is what the leaf n says, without `~`
+--     LeafBuilt a k e b              b is the leaf of the number k that says a, and its text ends at e
+--     FormAt, GroupAt, MembersAt     a form stands at place a of the text bs, ready to be compiled; a group, behind its opening bracket;
+--                                    the further members of a group
+--     Numbered k x n                 the leaves of the expression x are numbered from k on, and there are n
+--     FormBuilt s k bs f ts o r      r is the form f compiled, which the tokens ts and the bytes o follow, and where it ends
+--     ChainBuilt s h k bs c ts o r   the same of the further members c of a group with the head h
+--     Pair h x y z                   the expression z has the head h and the parts x and y
+--     Paired h one two b             b is the expression of the head h with the parts one and two, behind which it ends
 use Rattle.std.specs.Prelude.{◌≡◌, ℕ, ◌+◌, ◌≤◌, Bool, true, false, List, ◌∷◌, length, Some, None, Ok, Err, codes, Result, ◌≢◌}
 use Rattle.std.specs.declared.alloc.AllocError.{AllocError}
 use Rattle.algebra.specs.declared.leaf.LeafNumber.{LeafNumber}

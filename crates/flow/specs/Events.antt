@@ -1,9 +1,9 @@
 -- What the events and rules of a flow keep. Assumes nothing.
---     name_of e             the name of an event
---     names_in es           the names of the events es, in their order
---     told_in es            what a sheet tells of the events es, in their order
---     Distinct ns          no two of the names ns are the same
---     Within n xs          the literals of the rules xs speak of the first n events alone
+--     name_of e     the name of an event
+--     names_in es   the names of the events es, in their order
+--     told_in es    what a sheet tells of the events es, in their order
+--     Distinct ns   no two of the names ns are the same
+--     Within n xs   the literals of the rules xs speak of the first n events alone
 use Rattle.std.specs.Prelude.{ℕ, ◌<◌, List, map, vec_items}
 use mathlib.Core.List.{Memᴰ}
 use Rattle.std.specs.Str.{bytes_eq}

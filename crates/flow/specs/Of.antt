@@ -1,8 +1,8 @@
 -- What the values of this crate hold, for the contracts of other crates. Assumes nothing.
---     events_of f           what a sheet tells of the events of the flow f, in their order
---     names_of f            the names of its events, in their order
---     rules_of f            its rules, in their order
---     IsEmpty f            it has neither events nor rules
+--     events_of f   what a sheet tells of the events of the flow f, in their order
+--     names_of f    the names of its events, in their order
+--     rules_of f    its rules, in their order
+--     IsEmpty f     it has neither events nor rules
 use Rattle.std.specs.Prelude.{◌≡◌, ℕ, ◌≤◌, List, [], vec_items}
 use Rattle.std.proofs.Common.{sym, subst}
 use Rattle.std.proofs.lemmas.List.{length-map}

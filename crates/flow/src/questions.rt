@@ -2,7 +2,7 @@
 ghost use Rattle.std.specs.Prelude.{◌≡◌, ◌<◌, length, IfSome};
 ghost use Rattle.std.specs.List.{slice_get};
 ghost use Rattle.std.specs.Option.{option_map};
-ghost use Rattle.algebra.specs.Of.{rules_of as rulesIn};
+ghost use Rattle.algebra.specs.Of.{rules_of as rules_in};
 ghost use Rattle.flow.specs.Events.{name_of};
 ghost use Rattle.flow.specs.Of.{events_of, names_of, rules_of, IsEmpty, few_told};
 ghost use Rattle.accept.specs.Drafts.{Found};
@@ -26,7 +26,7 @@ impl Flow {
     }
 
     pub fn rules(&self) -> &Rules
-        ensures { rulesIn result.now ≡ rules_of self.now }
+        ensures { rules_in result.now ≡ rules_of self.now }
     {
         &self.rules
     }

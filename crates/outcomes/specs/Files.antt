@@ -1,10 +1,10 @@
 -- What is said of a flow file. Assumes nothing.
---     refusal_line k n t    the line of a refusal with the number k, at line n, by the reader with the word t
---     refused_line r        the line of a file that is refused by r
---     checked_line o        the line of a file that was checked with the outcome o
---     reason_of k           the fault k in words
+--     refusal_line k n t   the line of a refusal with the number k, at line n, by the reader with the word t
+--     refused_line r       the line of a file that is refused by r
+--     checked_line o       the line of a file that was checked with the outcome o
+--     reason_of k          the fault k in words
 --     visible b            the byte b as it is shown: `?` where it is not printable ASCII
---     line_text n bs        the bytes of line n of bs, counted from 0, without its line feed; empty past the last
+--     line_text n bs       the bytes of line n of bs, counted from 0, without its line feed; empty past the last
 --     explained bs r       what is said to people of the file bs, which is refused by r
 use Rattle.std.specs.Prelude.{ℕ, zero, suc, ◌-◌, cond, ◌&&◌, List, [], ◌∷◌, ◌++◌, map, Ok, Err, codes, decimal, Result, ◌==◌, nat_le}
 use Rattle.refusals.specs.declared.refusal.Fault.{Fault}

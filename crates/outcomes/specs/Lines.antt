@@ -1,16 +1,16 @@
 -- The lines that are printed of literals taken one by one. Assumes nothing.
---     settles l                 the status that the literal l gives its event
---     settled ss l              the statuses ss after the literal l
---     statuses_after w           the statuses of events 0 to 11 after the literals w
---     marks_after xs w           the marks of the rules xs after the literals w
---     left_line n m              the line of a literal, where n is the status word after it, and m are the marks
---     left_lines xs u v          the lines of the literals v, in turn, where the literals u came before them
---     refused_word t             the line of a word t that is refused
---     verdict_of b               what is said of a rule, which is fulfilled if b
---     rule_line k b              the line of rule k, which is fulfilled if b
---     rule_lines k bs            the lines of the rules from k on, which are fulfilled as bs says
---     Judged xs w bs            bs says of each of the rules xs, in turn, whether w meets it
---     RuleLines xs w t          t are the lines of the rules xs, each fulfilled exactly if w meets it
+--     settles l           the status that the literal l gives its event
+--     settled ss l        the statuses ss after the literal l
+--     statuses_after w    the statuses of events 0 to 11 after the literals w
+--     marks_after xs w    the marks of the rules xs after the literals w
+--     left_line n m       the line of a literal, where n is the status word after it, and m are the marks
+--     left_lines xs u v   the lines of the literals v, in turn, where the literals u came before them
+--     refused_word t      the line of a word t that is refused
+--     verdict_of b        what is said of a rule, which is fulfilled if b
+--     rule_line k b       the line of rule k, which is fulfilled if b
+--     rule_lines k bs     the lines of the rules from k on, which are fulfilled as bs says
+--     Judged xs w bs      bs says of each of the rules xs, in turn, whether w meets it
+--     RuleLines xs w t    t are the lines of the rules xs, each fulfilled exactly if w meets it
 use Rattle.std.specs.Prelude.{◌≡◌, ℕ, ◌+◌, ◌<◌, Bool, true, false, List, [], ◌∷◌, ◌++◌, length, replicate, codes, decimal, fold, slice_set}
 use Rattle.std.specs.List.{slice_get}
 use Rattle.algebra.specs.declared.literal.Literal.{Literal}

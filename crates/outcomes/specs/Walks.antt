@@ -1,10 +1,10 @@
 -- What is printed of a list of words that are read as literals. Assumes nothing.
---     Begun xs s               s has taken no literal yet, of the rules xs
---     Grown xs s l t           the state s becomes t as the literal l is taken, and its line is printed
---     Took names xs s d t r    where the state was s and the word was d, the answer is r and t stands afterwards
---     Spelt names w ds         the words ds say the literals w, one by one
---     Told names xs ds t o     of the words ds the bytes t are printed, and o is how far they were read
---     explained_word ds o       what is said to people of the words ds, where not all were read
+--     Begun xs s              s has taken no literal yet, of the rules xs
+--     Grown xs s l t          the state s becomes t as the literal l is taken, and its line is printed
+--     Took names xs s d t r   where the state was s and the word was d, the answer is r and t stands afterwards
+--     Spelt names w ds        the words ds say the literals w, one by one
+--     Told names xs ds t o    of the words ds the bytes t are printed, and o is how far they were read
+--     explained_word ds o     what is said to people of the words ds, where not all were read
 use Rattle.std.specs.Prelude.{◌≡◌, ℕ, ◌<◌, List, [], ◌∷◌, ◌++◌, map, length, take, replicate, Some, None, Ok, Err, string_bytes, codes, Option, Result, slice_index_or}
 use mathlib.Core.List.{Memᴰ}
 use Rattle.std.specs.declared.alloc.AllocError.{AllocError}

@@ -1,4 +1,4 @@
-// The bytes that the program prints.
+// The bytes that the program over flow files prints.
 #![tactic(auto)]
 
 pub mod file;

@@ -1,7 +1,7 @@
 -- Lines that are cut out of a file. Assumes nothing.
---     bytes_of l            the bytes of the line l, without its line feed
---     CutAt bs a n l       l is the line of the file bs that begins at place a, and has the number n
---     LineAt bs a n r      r is that line, if all its bytes may stand in a flow file; else the fault of line n
+--     bytes_of l        the bytes of the line l, without its line feed
+--     CutAt bs a n l    l is the line of the file bs that begins at place a, and has the number n
+--     LineAt bs a n r   r is that line, if all its bytes may stand in a flow file; else the fault of line n
 use Rattle.std.specs.Prelude.{◌≡◌, ℕ, List, length, take, drop, Ok, Err, Result}
 use Rattle.text.specs.declared.line.Line.{Line}
 use Rattle.text.specs.declared.line.ByteFault.{ByteFault}

@@ -1,11 +1,11 @@
 -- Lines of a file. Assumes nothing.
---     NoFeed bs a b        no byte from place a on, before b, is a line feed
---     EndsAt bs a r        r is the place of the first line feed from a on; absent if there is none
---     OneLine line         no byte of line is a line feed
---     FeedNext tail        tail begins with a line feed, or is empty
---     FirstLine bs line tail    bs is one line and then tail, which begins with the line feed that ends it, if one does
---     ended tail           a line feed ends the line that tail follows, and not the end of the file
---     Strange line         some byte of line stands in no flow file
+--     NoFeed bs a b            no byte from place a on, before b, is a line feed
+--     EndsAt bs a r            r is the place of the first line feed from a on; absent if there is none
+--     OneLine line             no byte of line is a line feed
+--     FeedNext tail            tail begins with a line feed, or is empty
+--     FirstLine bs line tail   bs is one line and then tail, which begins with the line feed that ends it, if one does
+--     ended tail               a line feed ends the line that tail follows, and not the end of the file
+--     Strange line             some byte of line stands in no flow file
 use Rattle.std.specs.Prelude.{◌≡◌, ℕ, ◌<◌, ◌≤◌, Bool, true, false, List, [], ◌∷◌, ◌++◌, length, Some, None, Option, ◌≢◌, slice_index}
 use Rattle.text.specs.declared.kind.Kind.TheVariants.{Other}
 use Rattle.text.specs.Kinds.{kind_of}

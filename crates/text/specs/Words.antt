@@ -1,22 +1,22 @@
 -- Words of a line, and the bytes that they are written with. Assumes nothing.
---     in_name k                bytes of the kind k stand in names: letters, digits and hyphens
---     name_byte b              the byte b may stand in a name
---     Token                    a word by its text: an opening or closing bracket, a name, a name behind `~`
---     token_of w               a word as a token
---     spelt t                  the bytes of a token
---     Run n                    n is a name as far as words go: one or more bytes that may stand in names
---     IsToken t                the name of the token, if it has one, is such a run
---     Broken rest              rest does not begin with a byte of a name
---     Ends t rest              rest goes on after t: where t ends in a name, rest does not begin with a byte of a name
---     gap tight t              what stands between t and the word before it: nothing behind an opening bracket or at a
---                              line's start (tight) or before a closing bracket, else one space
---     Stands tight bs t rest   bs begins with the token t, after its gap, and rest goes on
---     Inner t                  t is no closing bracket
---     is_open t                t is an opening bracket, behind which there is no gap
---     Written tight bs ts rest bs begins with the tokens ts, one behind the other, and rest goes on
---     spells tight ts          the bytes of the tokens ts, each after its gap
---     Tokens ts                each of ts is a token
---     OneSpelling              bytes are those of at most one list of tokens
+--     in_name k                 bytes of the kind k stand in names: letters, digits and hyphens
+--     name_byte b               the byte b may stand in a name
+--     Token                     a word by its text: an opening or closing bracket, a name, a name behind `~`
+--     token_of w                a word as a token
+--     spelt t                   the bytes of a token
+--     Run n                     n is a name as far as words go: one or more bytes that may stand in names
+--     IsToken t                 the name of the token, if it has one, is such a run
+--     Broken rest               rest does not begin with a byte of a name
+--     Ends t rest               rest goes on after t: where t ends in a name, rest does not begin with a byte of a name
+--     gap tight t               what stands between t and the word before it: nothing behind an opening bracket or at a
+--                               line's start (tight) or before a closing bracket, else one space
+--     Stands tight bs t rest    bs begins with the token t, after its gap, and rest goes on
+--     Inner t                   t is no closing bracket
+--     is_open t                 t is an opening bracket, behind which there is no gap
+--     Written tight bs ts rest  bs begins with the tokens ts, one behind the other, and rest goes on
+--     spells tight ts           the bytes of the tokens ts, each after its gap
+--     Tokens ts                 each of ts is a token
+--     OneSpelling               bytes are those of at most one list of tokens
 use Rattle.std.specs.Prelude.{◌≡◌, ℕ, ◌<◌, Bool, true, false, List, [], ◌∷◌, ◌++◌, length, slice_index}
 use Rattle.text.specs.declared.kind.Kind.{Kind}
 use Rattle.text.specs.declared.kind.Kind.TheVariants as kind
