@@ -1,5 +1,5 @@
 -- Names entered into the map.
-use Rattle.std.proofs.Common.{◌≡◌, ℕ, cond, List, Some, None, Option, sym, refl, ap, ◌∙◌, Bor}
+use Rattle.std.proofs.Common.{◌≡◌, ℕ, cond, List, Some, sym, ap, ◌∙◌, Bor}
 use Rattle.std.specs.Str.{bytes_eq}
 use Rattle.slots.specs.declared.slot.Slot.{Slot}
 use Rattle.slots.specs.declared.slot.Inserted.{Inserted}
@@ -7,7 +7,6 @@ use Rattle.slots.specs.declared.slot.Inserted.TheVariants.{New, Present, Full}
 use Rattle.slots.specs.Maps.{at, Inserts}
 use Rattle.accept.specs.declared.key.NameKey.{NameKey}
 use Rattle.accept.specs.Keys.{same_name}
-use Rattle.accept.specs.Tallies.{known}
 use Rattle.accept.specs.Naming.{Entering}
 use Rattle.accept.proofs.Tallying.{at_known}
 

@@ -1,21 +1,18 @@
 -- Drafts with one item more.
-use Rattle.std.proofs.Common.{◌≡◌, ℕ, zero, suc, ◌+◌, ◌<◌, ◌≤◌, Bool, true, false, cond, ◌⊎◌, List, [], ◌∷◌, ◌++◌, map, length, Some, None, Option, sym, refl, ap, ◌∙◌, subst, inl, inr, ⊎_elim, append_assoc, append-nil, arith, length-append}
+use Rattle.std.proofs.Common.{◌≡◌, ℕ, zero, suc, ◌+◌, ◌<◌, ◌≤◌, Bool, true, false, cond, ◌⊎◌, List, [], ◌∷◌, ◌++◌, length, Some, None, Option, sym, refl, ap, ◌∙◌, subst, inl, inr, ⊎_elim, append_assoc, append-nil, arith, length-append}
 use mathlib.Core.Bool.{false≢true}
 use mathlib.Core.List.Memᴰ
 use mathlib.Core.List.{Memᴰ}
-use lib.ListN.{length-map}
 use Rattle.std.specs.List.{slice_get, flat_map}
 use Rattle.std.specs.Str.{bytes_eq}
 use Rattle.std.proofs.lemmas.Slice.Eq.{bytes_eq-Decides}
 use Rattle.std.proofs.lemmas.List.{map-append, flat_map_more}
-use Rattle.std.proofs.lemmas.Bool.{cases_Bool}
 use Rattle.slots.specs.declared.slot.Slot.{Slot}
 use Rattle.slots.specs.declared.slot.Slot.TheVariants.{Free, Taken}
 use Rattle.slots.specs.Maps.{Valid, taken}
-use Rattle.entries.specs.declared.line.Section.{Section}
-use Rattle.entries.specs.declared.line.Section.TheVariants.{Start, Events, Rules}
+use Rattle.entries.specs.declared.line.Section.TheVariants.{Events, Rules}
 use Rattle.entries.specs.Forms.{Form}
-use Rattle.entries.specs.Items.{Declared, Item, event, rule, FineItem, render, Comes}
+use Rattle.entries.specs.Items.{Declared, event, rule, FineItem, render, Comes}
 use Rattle.accept.specs.declared.key.NameKey.{NameKey}
 use Rattle.accept.specs.Keys.{same_name, name_hash}
 use Rattle.accept.specs.Drafts.{IsName, leaves, Names, Draft, names, leaf_count, event_line, rule_line, rendered, section_of, section, Declares, Apart, Keeps}
@@ -162,7 +159,7 @@ pub found_none : (ns : List (List ℕ)) (n : List ℕ) (r : Option ℕ) → Foun
 found_none ns n None f e m = f m
 found_none ns n (Some k) f e m = let z : ◌≡◌ {A = ℕ} 0 1 = cc in omega arith
 
-nth_member : (ns : List (List ℕ)) (n : List ℕ) (e : ℕ) → slice_get ns e ≡ Some n → Memᴰ n ns
+pub nth_member : (ns : List (List ℕ)) (n : List ℕ) (e : ℕ) → slice_get ns e ≡ Some n → Memᴰ n ns
 nth_member [] n e is = absurd (let z : ◌≡◌ {A = ℕ} 0 1 = cc in omega arith)
 nth_member (k ∷ ns) n zero is = Memᴰ.head (sym (some_same is))
   where

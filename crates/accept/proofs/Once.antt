@@ -10,6 +10,7 @@ use Rattle.std.proofs.lemmas.Bool.{cases_order}
 use Rattle.text.specs.declared.kind.Kind.TheVariants.{Other}
 use Rattle.text.specs.Kinds.{kind_of}
 use Rattle.text.specs.Words.{in_name, name_byte, Token, opens, closes, named, negated, spelt, Run, IsToken, gap, is_open, spells, Tokens}
+use Rattle.text.proofs.Tokens.{cons_head, cons_tail, nil_not_cons}
 use Rattle.text.specs.Lines.{OneLine, FeedNext, ended, Strange}
 use Rattle.entries.specs.Forms.{Form}
 use Rattle.entries.specs.Items.{Declared, Item, event, rule, item_words, FineItem, render, Comes}
@@ -85,23 +86,14 @@ one_line i fine k h = (fairs_item i fine k h).0
 not_strange : (i : Item) → FineItem i → Strange (render i) → ⊥
 not_strange i fine (k, h, e) = (fairs_item i fine k h).1 e
 
-head_same : {X : Type 0} {x y : X} {xs ys : List X} → x ∷ xs ≡ y ∷ ys → x ≡ y
-head_same e = cc
-
-tail_same : {X : Type 0} {x y : X} {xs ys : List X} → x ∷ xs ≡ y ∷ ys → xs ≡ ys
-tail_same e = cc
-
-nil_not_cons : {X : Type 0} {x : X} {xs : List X} → [] ≡ x ∷ xs → ⊥
-nil_not_cons e = let z : ◌≡◌ {A = ℕ} 0 1 = cc in omega arith
-
 -- a first line is cut in one way
 first_same : (l m s t : List ℕ) → OneLine l → OneLine m → FeedNext s → FeedNext t → l ++ s ≡ m ++ t → (l ≡ m) × (s ≡ t)
 first_same [] [] s t f g a b e = (refl, e)
 first_same [] (y ∷ m) s t f g a b e = absurd (g 0 (omega arith) (subst FeedNext e a))
 first_same (x ∷ l) [] s t f g a b e = absurd (f 0 (omega arith) (subst FeedNext (sym e) b))
 first_same (x ∷ l) (y ∷ m) s t f g a b e =
-    let (p, q) = first_same l m s t (λ k h. f (suc k) (omega arith)) (λ k h. g (suc k) (omega arith)) a b (tail_same e) in
-    let r = head_same e in
+    let (p, q) = first_same l m s t (λ k h. f (suc k) (omega arith)) (λ k h. g (suc k) (omega arith)) a b (cons_tail e) in
+    let r = cons_head e in
     ((cc), q)
 
 -- a draft as the items of its lines
@@ -152,7 +144,7 @@ compare (i ∷ is) (j ∷ js) x y f g e =
     let fj = g j (Memᴰ.head refl) in
     let (p, q) = first_same (render i) (render j) (10 ∷ (flat_map line_of is ++ x)) (10 ∷ (flat_map line_of js ++ y)) (one_line i fi) (one_line j fj) refl refl (sym (regroup (render i) (flat_map line_of is) x) ∙ e ∙ regroup (render j) (flat_map line_of js) y) in
     let same : i ≡ j = one_item i j fi fj p in
-    ⊎_elim (λ (ks, r, s). inl (ks, (cc), s)) (λ (ks, r, s). inr (ks, (cc), s)) (compare is js x y (λ k m. f k (Memᴰ.tail m)) (λ k m. g k (Memᴰ.tail m)) (tail_same q))
+    ⊎_elim (λ (ks, r, s). inl (ks, (cc), s)) (λ (ks, r, s). inr (ks, (cc), s)) (compare is js x y (λ k m. f k (Memᴰ.tail m)) (λ k m. g k (Memᴰ.tail m)) (cons_tail q))
 
 event_not_rule : {x : Declared} {f : Form} → event x ≡ rule f → ⊥
 event_not_rule e = let z : ◌≡◌ {A = ℕ} 0 1 = cc in omega arith
@@ -161,8 +153,8 @@ event_not_rule e = let z : ◌≡◌ {A = ℕ} 0 1 = cc in omega arith
 next_rule : (fs gs : List Form) (i : Item) (js : List Item) → map rule fs ≡ map rule gs ++ (i ∷ js) → (f : Form) × (hs : List Form) × (i ≡ rule f) × (fs ≡ gs ++ (f ∷ hs))
 next_rule [] [] i js e = absurd (nil_not_cons e)
 next_rule [] (g ∷ gs) i js e = absurd (nil_not_cons e)
-next_rule (f ∷ fs) [] i js e = (f, fs, sym (head_same e), refl)
-next_rule (f ∷ fs) (g ∷ gs) i js e = let (h, hs, is, q) = next_rule fs gs i js (tail_same e) in let p = head_same e in (h, hs, is, cc)
+next_rule (f ∷ fs) [] i js e = (f, fs, sym (cons_head e), refl)
+next_rule (f ∷ fs) (g ∷ gs) i js e = let (h, hs, is, q) = next_rule fs gs i js (cons_tail e) in let p = cons_head e in (h, hs, is, cc)
 
 abbrev NextEvent : List Declared → List Declared → List Form → Item → Type 0
 NextEvent xs ys gs i = (x : Declared) × (zs : List Declared) × (i ≡ event x) × (xs ≡ ys ++ (x ∷ zs)) × (gs ≡ [])
@@ -173,27 +165,27 @@ NextRule xs ys fs gs i = (f : Form) × (hs : List Form) × (i ≡ rule f) × (xs
 next : (xs ys : List Declared) (fs gs : List Form) (i : Item) (js : List Item) → map event xs ++ map rule fs ≡ (map event ys ++ map rule gs) ++ (i ∷ js) → NextEvent xs ys gs i ⊎ NextRule xs ys fs gs i
 next [] [] fs gs i js e = let (f, hs, is, q) = next_rule fs gs i js e in inr (f, hs, is, refl, q)
 next [] (y ∷ ys) [] gs i js e = absurd (nil_not_cons e)
-next [] (y ∷ ys) (f ∷ fs) gs i js e = absurd (event_not_rule (sym (head_same e)))
-next (x ∷ xs) [] fs [] i js e = inl (x, xs, sym (head_same e), refl, refl)
-next (x ∷ xs) [] fs (g ∷ gs) i js e = absurd (event_not_rule (head_same e))
+next [] (y ∷ ys) (f ∷ fs) gs i js e = absurd (event_not_rule (sym (cons_head e)))
+next (x ∷ xs) [] fs [] i js e = inl (x, xs, sym (cons_head e), refl, refl)
+next (x ∷ xs) [] fs (g ∷ gs) i js e = absurd (event_not_rule (cons_head e))
 next (x ∷ xs) (y ∷ ys) fs gs i js e =
-    let p : x ≡ y = (let q = head_same e in cc) in
-    ⊎_elim (λ (z, zs, is, q, r). inl (z, zs, is, (cc), r)) (λ (f, hs, is, q, r). inr (f, hs, is, (cc), r)) (next xs ys fs gs i js (tail_same e))
+    let p : x ≡ y = (let q = cons_head e in cc) in
+    ⊎_elim (λ (z, zs, is, q, r). inl (z, zs, is, (cc), r)) (λ (f, hs, is, q, r). inr (f, hs, is, (cc), r)) (next xs ys fs gs i js (cons_tail e))
 
 -- the items of a draft determine it
 rules_same : (fs gs : List Form) → map rule fs ≡ map rule gs → fs ≡ gs
 rules_same [] [] e = refl
 rules_same [] (g ∷ gs) e = absurd (nil_not_cons e)
 rules_same (f ∷ fs) [] e = absurd (nil_not_cons (sym e))
-rules_same (f ∷ fs) (g ∷ gs) e = let p = rules_same fs gs (tail_same e) in let q = head_same e in cc
+rules_same (f ∷ fs) (g ∷ gs) e = let p = rules_same fs gs (cons_tail e) in let q = cons_head e in cc
 
 parts_same : (xs ys : List Declared) (fs gs : List Form) → map event xs ++ map rule fs ≡ map event ys ++ map rule gs → (xs ≡ ys) × (fs ≡ gs)
 parts_same [] [] fs gs e = (refl, rules_same fs gs e)
 parts_same [] (y ∷ ys) [] gs e = absurd (nil_not_cons e)
-parts_same [] (y ∷ ys) (f ∷ fs) gs e = absurd (event_not_rule (sym (head_same e)))
+parts_same [] (y ∷ ys) (f ∷ fs) gs e = absurd (event_not_rule (sym (cons_head e)))
 parts_same (x ∷ xs) [] fs [] e = absurd (nil_not_cons (sym e))
-parts_same (x ∷ xs) [] fs (g ∷ gs) e = absurd (event_not_rule (head_same e))
-parts_same (x ∷ xs) (y ∷ ys) fs gs e = let (p, q) = parts_same xs ys fs gs (tail_same e) in let r = head_same e in ((cc), q)
+parts_same (x ∷ xs) [] fs (g ∷ gs) e = absurd (event_not_rule (cons_head e))
+parts_same (x ∷ xs) (y ∷ ys) fs gs e = let (p, q) = parts_same xs ys fs gs (cons_tail e) in let r = cons_head e in ((cc), q)
 
 items_same : (b d : Draft) → items b ≡ items d → b ≡ d
 items_same b d e =

@@ -1,17 +1,14 @@
 -- One line more of a flow file.
-use Rattle.std.proofs.Common.{◌≡◌, ℕ, ◌+◌, ◌-◌, ◌<◌, ◌≤◌, Bool, true, false, ◌⊎◌, List, [], ◌∷◌, ◌++◌, length, get_or, drop, IsErrAnd, Some, None, Ok, Err, Result, sym, refl, ap, ◌∙◌, subst, inl, inr, ⊎_elim, append_assoc, arith, length-append, length-drop}
+use Rattle.std.proofs.Common.{◌≡◌, ℕ, ◌+◌, ◌-◌, ◌<◌, ◌≤◌, true, false, ◌⊎◌, List, [], ◌∷◌, ◌++◌, length, get_or, drop, IsErrAnd, Some, None, Ok, Err, Result, sym, refl, ap, ◌∙◌, subst, inl, inr, ⊎_elim, append_assoc, arith, length-append, length-drop}
 use mathlib.Core.Bool.{false≢true}
-use mathlib.Core.List.{Memᴰ}
 use lib.ListN.{length-map}
 use Rattle.std.proofs.lemmas.List.{drop_more}
 use Rattle.slots.specs.declared.slot.Slot.{Slot}
-use Rattle.slots.specs.Maps.{Valid, taken}
+use Rattle.slots.specs.Maps.{Valid}
 use Rattle.text.specs.declared.line.Line.{Line}
 use Rattle.text.specs.Files.{bytes_of, CutAt}
-use Rattle.text.specs.Lines.{FirstLine, FeedNext, ended, Strange}
-use Rattle.text.specs.Words.{closes, Run}
-use Rattle.entries.specs.declared.line.Section.{Section}
-use Rattle.entries.specs.declared.line.Declaration.{Declaration}
+use Rattle.text.specs.Lines.{FeedNext, ended, Strange}
+use Rattle.text.specs.Words.{closes}
 use Rattle.entries.specs.declared.line.Passage.{Passage}
 use Rattle.entries.specs.declared.line.Entry.{Entry}
 use Rattle.entries.specs.declared.line.Entry.TheVariants as entry
@@ -19,7 +16,7 @@ use Rattle.entries.specs.declared.line.Read.{Read}
 use Rattle.entries.specs.declared.line.FormFault.{FormFault}
 use Rattle.entries.specs.declared.line.FormFault.TheVariants as form
 use Rattle.entries.specs.Forms.{Form, words}
-use Rattle.entries.specs.Items.{Declared, Item, event, rule, FineItem, Comes, render, Shaped}
+use Rattle.entries.specs.Items.{Declared, Item, event, rule, render, Shaped}
 use Rattle.entries.specs.Reads.{Left}
 use Rattle.entries.specs.Entries.{Says, EntryAt}
 use Rattle.entries.proofs.Wording.{one_item}
@@ -31,11 +28,10 @@ use Rattle.refusals.specs.declared.refusal.Refusal.{Refusal}
 use Rattle.accept.specs.declared.counts.Step.{Step}
 use Rattle.refusals.specs.Refusals.{fault_number, refusal_of}
 use Rattle.accept.specs.Keys.{same_name, name_hash}
-use Rattle.accept.specs.Drafts.{IsName, leaves, Names, Draft, names, leaf_count, rendered, section, Declares, Keeps}
-use Rattle.accept.specs.Outcomes.{Holds, OneTooMany, Faulty, FirstFault}
+use Rattle.accept.specs.Drafts.{IsName, leaves, Names, Draft, names, leaf_count, rendered, section, Declares}
+use Rattle.accept.specs.Outcomes.{Holds, Faulty, FirstFault}
 use Rattle.accept.specs.Tallies.{known, Judged}
 use Rattle.accept.specs.Naming.{Declaring}
-use Rattle.accept.specs.Drafts.{Found}
 use Rattle.accept.specs.Steps.{Knows, Reached, grown, after_event, after_rule, Taking, GoesOn, Stepped}
 use Rattle.accept.proofs.Growing.{names_event, section_event_is, rendered_event, keeps_event, section_rule_is, leaves_rule, rendered_rule, keeps_rule, knows_more, knows_room, found_none, found_some}
 

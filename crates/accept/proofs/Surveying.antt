@@ -1,9 +1,9 @@
 -- The leaves of a rule, word by word.
-use Rattle.std.proofs.Common.{◌≡◌, ℕ, ◌<◌, ◌≤◌, Bool, true, false, List, [], ◌∷◌, ◌++◌, length, drop, Some, None, sym, refl, ap, ◌∙◌, subst, append_assoc, append-nil, arith, length-drop}
+use Rattle.std.proofs.Common.{◌≡◌, ℕ, ◌<◌, ◌≤◌, Bool, false, List, [], ◌∷◌, ◌++◌, length, drop, None, sym, refl, ap, ◌∙◌, subst, append_assoc, append-nil, arith, length-drop}
 use Rattle.std.proofs.lemmas.List.{drop_all}
 use Rattle.slots.specs.declared.slot.Slot.{Slot}
 use Rattle.text.specs.declared.placed.Placed.{Placed}
-use Rattle.text.specs.Words.{Token, closes, token_of, is_open, Stands, Written}
+use Rattle.text.specs.Words.{Token, closes, token_of, is_open, Written}
 use Rattle.text.specs.Places.{PlacedAt, WordAt}
 use Rattle.text.proofs.Spelling.{same_gapped, begins}
 use Rattle.entries.specs.Forms.{Form, words}

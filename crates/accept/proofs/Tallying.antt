@@ -1,5 +1,5 @@
 -- Tallies of leaves.
-use Rattle.std.proofs.Common.{◌≡◌, ℕ, ◌+◌, ◌<◌, ◌≤◌, Bool, true, false, cond, not, ◌||◌, ◌⊎◌, List, [], ◌∷◌, ◌++◌, length, is_some, Some, None, Ok, Err, codes, MatchBool, Option, sym, refl, ap, ◌∙◌, subst, inl, inr, ⊎_elim, append_assoc, append-nil, arith, length-append}
+use Rattle.std.proofs.Common.{◌≡◌, ℕ, ◌+◌, ◌<◌, ◌≤◌, Bool, true, false, cond, not, ◌||◌, ◌⊎◌, List, [], ◌∷◌, ◌++◌, length, is_some, Some, None, Ok, Err, MatchBool, Option, sym, refl, ap, ◌∙◌, subst, inl, inr, ⊎_elim, append_assoc, append-nil, arith, length-append}
 use mathlib.Core.Bool.{false≢true}
 use mathlib.Core.List.Memᴰ
 use mathlib.Core.List.{Memᴰ}
@@ -7,7 +7,6 @@ use Rattle.std.specs.Str.{bytes_eq}
 use Rattle.slots.specs.declared.slot.Slot.{Slot}
 use Rattle.slots.specs.declared.slot.Slot.TheVariants.{Free, Taken}
 use Rattle.slots.specs.Maps.{at}
-use Rattle.text.specs.declared.word.Word.{Word}
 use Rattle.text.specs.Words.{Token, token_of, is_open}
 use Rattle.text.specs.Words as token
 use Rattle.entries.specs.Forms.{Form, plain, never, group, Chain, last, more, words, chain}
@@ -17,7 +16,7 @@ use Rattle.refusals.specs.declared.refusal.Fault.{Fault}
 use Rattle.refusals.specs.declared.refusal.Fault.TheVariants.{Byte, Shape, Name, Twice, Undeclared, TooMany}
 use Rattle.accept.specs.Keys.{same_name}
 use Rattle.accept.specs.Drafts.{IsName, Leaf, bare, negated, leaves, leaves_of, LeafName, Names}
-use Rattle.accept.specs.Tallies.{known, Constant, Mentions, leaf_of, leaves_in, Tallied, Naming, Lowest, WellNamed, AllKnown, Judged}
+use Rattle.accept.specs.Tallies.{known, Constant, Mentions, leaves_in, Tallied, Naming, Lowest, WellNamed, AllKnown, Judged}
 
 -- what the map answers depends on a key's bytes alone
 pub at_known : (s : List (Slot NameKey)) (q : NameKey) → at same_name s q ≡ known s q.bytes.now

@@ -7,7 +7,8 @@ use Rattle.text.specs.Words.{closes, named, Stands}
 use Rattle.entries.specs.Items.{grade_text, forcibly}
 use Rattle.entries.specs.Reads.{Left, CloseAt}
 use Rattle.entries.specs.Tails.{NameIs, GradeAt, ForciblyAt, EventAt}
-use Rattle.entries.proofs.Steps.{left_to, left_from, named_same}
+use Rattle.entries.proofs.Steps.{left_to, left_from}
+use Rattle.text.proofs.Tokens.{named_same}
 
 module _ (bs : List ℕ) (a : ℕ) where
   -- the bracket at a ends at e, and the line too if e is its length

@@ -7,7 +7,8 @@ use Rattle.algebra.specs.declared.expr.Head.{Head}
 use Rattle.entries.specs.declared.expr.NotForm.{NotForm}
 use Rattle.entries.specs.Forms.{head_text, Form, plain, never, group, Chain, last, more, words, chain, Fine, Fines}
 use Rattle.entries.specs.Reads.{Left, Within, HeadAt, CloseAt, ExprAt, GroupAt, MembersAt}
-use Rattle.entries.proofs.Steps.{left_to, left_from, left_none, named_same, negated_same, apart, head_same}
+use Rattle.entries.proofs.Steps.{left_to, left_from, left_none, head_same}
+use Rattle.text.proofs.Tokens.{named_same, negated_same, apart}
 
 -- the first word of a form is no closing bracket
 words_first : (f : Form) (ts : List Token) → (u : Token) × (us : List Token) × (words f ts ≡ u ∷ us) × Inner u

@@ -16,7 +16,8 @@ use Rattle.entries.specs.Items.{Item, event, rule, item_words, FineItem, render,
 use Rattle.entries.specs.Reads.{Left}
 use Rattle.entries.specs.Entries.{Says}
 use Rattle.entries.specs.Tails.{NameIs, OpenAt, declaring, EventAt, RuleAt, ItemOf, takes, LineSays}
-use Rattle.entries.proofs.Steps.{left_to, left_from, named_same}
+use Rattle.entries.proofs.Steps.{left_to, left_from}
+use Rattle.text.proofs.Tokens.{named_same}
 use Rattle.entries.proofs.Wording.{words_apart, item_tokens, one_item}
 
 module _ (l : Line) where

@@ -8,7 +8,8 @@ use Rattle.text.specs.Words.{Token, closes, Run, Tokens, Inner}
 use Rattle.text.proofs.Spelling.{one_spelling, run_of}
 use Rattle.entries.specs.Forms.{head_text, Form, plain, never, group, Chain, last, more, words, chain, Fine, Fines}
 use Rattle.entries.specs.Items.{grade_text, Declared, Item, event, rule, forcibly, item_words, FineItem, render}
-use Rattle.entries.proofs.Steps.{named_same, negated_same, apart, head_same}
+use Rattle.entries.proofs.Steps.{head_same}
+use Rattle.text.proofs.Tokens.{cons_head, named_same, negated_same, apart}
 use Rattle.entries.proofs.Parsing.{chain_first}
 
 run_head : (h : Head) → Run (head_text h)
@@ -40,25 +41,22 @@ pub item_tokens : (i : Item) → FineItem i → Tokens (item_words i)
 item_tokens (event x) run = (tt, (run_of (codes "event") (omega arith) refl, (run, (run_grade x.told.grade, forcibly_tokens x.told.forcible (closes ∷ []) (tt, tt)))))
 item_tokens (rule f) fine = (tt, (run_of (codes "rule") (omega arith) refl, words_tokens f 8 (closes ∷ []) fine (tt, tt)))
 
-first_same : {x y : Token} {xs ys : List Token} → x ∷ xs ≡ y ∷ ys → x ≡ y
-first_same e = cc
-
 rest_same : {x y : Token} {xs ys : List Token} → x ∷ xs ≡ y ∷ ys → xs ≡ ys
 rest_same e = cc
 
 -- the words of a form determine it
 mutual
   words_same : (f g : Form) (ts us : List Token) → words f ts ≡ words g us → (f ≡ g) × (ts ≡ us)
-  words_same (plain n) (plain m) ts us e = (ap plain (named_same (first_same e)), rest_same e)
+  words_same (plain n) (plain m) ts us e = (ap plain (named_same (cons_head e)), rest_same e)
   words_same (plain n) (never m) ts us e = absurd (apart (cc))
   words_same (plain n) (group h g c) ts us e = absurd (apart (cc))
   words_same (never n) (plain m) ts us e = absurd (apart (cc))
-  words_same (never n) (never m) ts us e = (ap never (negated_same (first_same e)), rest_same e)
+  words_same (never n) (never m) ts us e = (ap never (negated_same (cons_head e)), rest_same e)
   words_same (never n) (group h g c) ts us e = absurd (apart (cc))
   words_same (group h f c) (plain m) ts us e = absurd (apart (cc))
   words_same (group h f c) (never m) ts us e = absurd (apart (cc))
   words_same (group h f c) (group k g b) ts us e =
-      let same = head_same h k (named_same (first_same (rest_same e))) in
+      let same = head_same h k (named_same (cons_head (rest_same e))) in
       let p = words_same f g (chain c ts) (chain b us) (rest_same (rest_same e)) in
       let q = chain_same c b ts us p.1 in
       ((let x = p.0 in let y = q.0 in cc), q.1)
@@ -68,11 +66,11 @@ mutual
   chain_same (last f) (more g b) ts us e =
       let p = words_same f g (closes ∷ ts) (chain b us) e in
       let (u, vs, is, inner) = chain_first b us in
-      absurd (subst Inner (sym (first_same (p.1 ∙ is))) inner)
+      absurd (subst Inner (sym (cons_head (p.1 ∙ is))) inner)
   chain_same (more f c) (last g) ts us e =
       let p = words_same f g (chain c ts) (closes ∷ us) e in
       let (u, vs, is, inner) = chain_first c ts in
-      absurd (subst Inner (first_same (sym is ∙ p.1)) inner)
+      absurd (subst Inner (cons_head (sym is ∙ p.1)) inner)
   chain_same (more f c) (more g b) ts us e =
       let p = words_same f g (chain c ts) (chain b us) e in
       let q = chain_same c b ts us p.1 in
@@ -110,12 +108,12 @@ words_apart e = let q = byte_same e in omega arith
 
 item_same : (i j : Item) → item_words i ≡ item_words j → i ≡ j
 item_same (event x) (event y) e =
-    let ns : x.name ≡ y.name = named_same (first_same (rest_same (rest_same e))) in
-    let gs : x.told.grade ≡ y.told.grade = grade_same x.told.grade y.told.grade (named_same (first_same (rest_same (rest_same (rest_same e))))) in
+    let ns : x.name ≡ y.name = named_same (cons_head (rest_same (rest_same e))) in
+    let gs : x.told.grade ≡ y.told.grade = grade_same x.told.grade y.told.grade (named_same (cons_head (rest_same (rest_same (rest_same e))))) in
     let bs : x.told.forcible ≡ y.told.forcible = forcibly_same x.told.forcible y.told.forcible (rest_same (rest_same (rest_same (rest_same e)))) in
     ap event (ap (λ n. declared n x.told.grade x.told.forcible) ns ∙ ap (λ g. declared y.name g x.told.forcible) gs ∙ ap (λ b. declared y.name y.told.grade b) bs)
-item_same (event x) (rule g) e = absurd (words_apart (named_same (first_same (rest_same e))))
-item_same (rule f) (event y) e = absurd (words_apart (sym (named_same (first_same (rest_same e)))))
+item_same (event x) (rule g) e = absurd (words_apart (named_same (cons_head (rest_same e))))
+item_same (rule f) (event y) e = absurd (words_apart (sym (named_same (cons_head (rest_same e)))))
 item_same (rule f) (rule g) e = ap rule (words_same f g (closes ∷ []) (closes ∷ []) (rest_same (rest_same e))).0
 
 -- a line says one item at most

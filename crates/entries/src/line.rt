@@ -44,7 +44,7 @@ pub struct Read<'a> {
     pub next: usize,
 }
 
-// Why a line is not read, with its number, counted from 1.
+// Why a line is not read, with its number, counted from 1: at most one more than the file has line feeds.
 #[derive(Clone, Copy)]
 pub enum FormFault {
     // The byte reader's fault.

@@ -11,8 +11,11 @@ type Words = Vec<Vec<u8>>;
 #[derive(Drop)]
 struct Seen {
     names: Words,
+    // At most 12.
     events: u8,
+    // At most 16.
     rules: u8,
+    // At most 64.
     leaves: u8,
 }
 

@@ -18,7 +18,8 @@ use Rattle.text.specs.Words.{Token, opens, closes, named, negated, Stands, Inner
 use Rattle.text.specs.Places.{PlacedAt}
 use Rattle.entries.specs.Forms.{head_text, Form, plain, never, group, Chain, last, more, words, chain, Fine, Fines}
 use Rattle.entries.specs.Reads.{Left, Within, HeadAt, CloseAt}
-use Rattle.entries.proofs.Steps.{left_from, named_same, head_same, apart}
+use Rattle.entries.proofs.Steps.{left_from, head_same}
+use Rattle.text.proofs.Tokens.{named_same, apart}
 use Rattle.entries.proofs.Parsing.{chain_first, expr_none, plain_only, never_only, expr_close}
 use Rattle.accept.specs.declared.key.NameKey.{NameKey}
 use Rattle.flow.specs.declared.built.Built.{Built}

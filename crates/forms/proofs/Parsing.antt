@@ -7,7 +7,8 @@ use Rattle.forms.specs.declared.expr.Head.{Head}
 use Rattle.forms.specs.declared.expr.NotForm.{NotForm}
 use Rattle.forms.specs.Forms.{head_text, Form, plain, never, group, Chain, last, more, words, chain, Fine, Fines}
 use Rattle.forms.specs.Reads.{Left, Within, HeadAt, CloseAt, ExprAt, GroupAt, MembersAt}
-use Rattle.forms.proofs.Steps.{left_to, left_from, left_none, named_same, negated_same, apart}
+use Rattle.forms.proofs.Steps.{left_to, left_from, left_none}
+use Rattle.text.proofs.Tokens.{named_same, negated_same, apart}
 
 -- the first word of a form is no closing bracket
 words_first : (f : Form) (ts : List Token) → (u : Token) × (us : List Token) × (words f ts ≡ u ∷ us) × Inner u

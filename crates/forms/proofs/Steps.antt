@@ -1,9 +1,8 @@
 -- One word of a line at a time.
-use Rattle.std.proofs.Common.{◌≡◌, ℕ, Bool, List, ◌∷◌, ◌++◌, drop, None, sym, refl, ap, ◌∙◌, arith, Bor}
-use Rattle.text.specs.declared.word.Word.{Word}
-use Rattle.text.specs.declared.word.Word.TheVariants.{Open, Close, Name, Never}
-use Rattle.text.specs.Words.{Token, token_of, closes, named, negated, spelt, gap, Stands, is_open, spells}
+use Rattle.std.proofs.Common.{◌≡◌, ℕ, Bool, List, ◌∷◌, ◌++◌, drop, None, sym, refl, ap, ◌∙◌, arith}
+use Rattle.text.specs.Words.{Token, spelt, gap, Stands, is_open, spells}
 use Rattle.text.specs.Runs.{NextAt}
+use Rattle.text.proofs.Tokens.{cons_head, cons_tail}
 use Rattle.text.proofs.Spelling.{same_gapped, words_end}
 use Rattle.forms.specs.declared.expr.Head.{Head}
 use Rattle.forms.specs.declared.expr.Head.TheVariants.{Alt, All, Seq}
@@ -21,34 +20,6 @@ module _ (bs : List ℕ) (a : ℕ) (tight : Bool) where
 
   pub left_none : (u : Token) (us : List Token) → NextAt tight bs a None → Left bs a tight (u ∷ us) → ⊥
   left_none u us none ((good, all), whole) = none u (spells (is_open u) us) (good, whole, words_end u us)
-
-pub named_same : {m n : List ℕ} → named m ≡ named n → m ≡ n
-named_same e = cc
-
-pub negated_same : {m n : List ℕ} → negated m ≡ negated n → m ≡ n
-negated_same e = cc
-
-pub apart : ◌≡◌ {A = ℕ} 0 1 → ⊥
-apart e = omega arith
-
--- words and their tokens
-pub token_close : (w : Word) → closes ≡ token_of w → w ≡ Close
-token_close Open e = absurd (apart (cc))
-token_close Close e = refl
-token_close (Name n) e = absurd (apart (cc))
-token_close (Never n) e = absurd (apart (cc))
-
-pub token_name : (w : Word) (n : List ℕ) → named n ≡ token_of w → (m : Bor (List ℕ)) × (w ≡ Name m)
-token_name Open n e = absurd (apart (cc))
-token_name Close n e = absurd (apart (cc))
-token_name (Name m) n e = (m, refl)
-token_name (Never m) n e = absurd (apart (cc))
-
-cons_head : {x y : ℕ} {xs ys : List ℕ} → x ∷ xs ≡ y ∷ ys → x ≡ y
-cons_head e = cc
-
-cons_tail : {x y : ℕ} {xs ys : List ℕ} → x ∷ xs ≡ y ∷ ys → xs ≡ ys
-cons_tail e = cc
 
 pub head_same : (k h : Head) → head_text k ≡ head_text h → k ≡ h
 head_same Alt Alt e = refl

@@ -1,4 +1,3 @@
 mod Reading
-mod Printing
 mod Walking
 mod Showing

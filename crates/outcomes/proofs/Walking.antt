@@ -1,37 +1,24 @@
 -- Words taken one by one.
-use Rattle.std.proofs.Common.{◌≡◌, ℕ, ◌+◌, ◌<◌, ◌≤◌, List, [], ◌∷◌, ◌++◌, map, length, get_or, take, replicate, Some, None, Ok, string_bytes, fold, String, sym, refl, ap, ◌∙◌, subst, append_assoc, append-nil, arith, length-set}
+use Rattle.std.proofs.Common.{◌≡◌, ℕ, ◌+◌, ◌<◌, ◌≤◌, List, [], ◌∷◌, ◌++◌, map, length, get_or, take, replicate, Some, None, Ok, string_bytes, String, sym, ap, ◌∙◌, subst, append_assoc, append-nil, arith}
 use Rattle.std.specs.declared.alloc.Global.{Global}
 use Rattle.std.proofs.lemmas.List.{length-map, take_more, take_all, get_or-map}
 use Rattle.algebra.specs.declared.literal.Literal.{Literal}
 use Rattle.algebra.specs.declared.expr.Expr.{Expr}
-use Rattle.algebra.specs.Literals.{event_of}
 use Rattle.algebra.specs.Left.{fresh_all, applied_all}
 use Rattle.algebra.specs.Of.{literals_of}
-use Rattle.sheet.specs.declared.status.Status.{Status}
 use Rattle.sheet.specs.declared.status.Status.TheVariants.{Open}
 use Rattle.sheet.specs.Of.{bits_of}
 use Rattle.sheet.specs.Statuses.{packed, statuses}
-use Rattle.sheet.proofs.Words.{packing}
 use Rattle.outcomes.specs.declared.walk.Outcome.{Outcome}
 use Rattle.outcomes.specs.declared.walk.Outcome.TheVariants as outcome
 use Rattle.outcomes.specs.declared.walk.Step.{Step}
 use Rattle.outcomes.specs.declared.walk.Step.TheVariants as step
 use Rattle.outcomes.specs.declared.walk.Walk.{Walk}
-use Rattle.outcomes.specs.Lines.{settles, settled, statuses_after, marks_after, left_line, left_lines, refused_word, RuleLines}
+use Rattle.report.proofs.Walking.{folded_push, statuses_after_lem}
+use Rattle.report.specs.Lines.{settled, statuses_after, marks_after, RuleLines}
+use Rattle.outcomes.specs.Lines.{left_line, left_lines, refused_word}
 use Rattle.outcomes.specs.Texts.{Says}
 use Rattle.outcomes.specs.Walks.{Begun, Grown, Took, Spelt, Told}
-
-folded_push : {X Y : Type 0} (f : Y → X → Y) (y : Y) (xs : List X) (x : X) → fold f y (xs ++ (x ∷ [])) ≡ f (fold f y xs) x
-folded_push f y [] x = refl
-folded_push f y (z ∷ xs) x = folded_push f (f y z) xs x
-
-length_settled : (ss : List Status) (w : List Literal) → length (fold settled ss w) ≡ length ss
-length_settled ss [] = refl
-length_settled ss (l ∷ w) = length_settled (settled ss l) w ∙ length-set ss (event_of l) (settles l)
-
--- the statuses after literals, out of their word
-statuses_after_lem : (w : List Literal) → statuses (packed (statuses_after w)) ≡ statuses_after w
-statuses_after_lem w = (packing.1 (statuses_after w) (length_settled (replicate 12 Open) w)).1
 
 lines_push : (xs : List Expr) (u v : List Literal) (l : Literal) → left_lines xs u (v ++ (l ∷ [])) ≡ left_lines xs u v ++ left_line (packed (statuses_after (u ++ (v ++ (l ∷ []))))) (marks_after xs (u ++ (v ++ (l ∷ []))))
 lines_push xs u [] l = append-nil _

@@ -21,7 +21,8 @@ use Rattle.outcomes.specs.declared.walk.Outcome.TheVariants as outcome
 use Rattle.outcomes.specs.declared.walk.Step.{Step}
 use Rattle.outcomes.specs.declared.walk.Step.TheVariants as step
 use Rattle.outcomes.specs.declared.walk.Walk.{Walk}
-use Rattle.outcomes.specs.Lines.{settled, left_line, left_lines, refused_word, RuleLines}
+use Rattle.report.specs.Lines.{settled, RuleLines}
+use Rattle.outcomes.specs.Lines.{left_line, left_lines, refused_word}
 use Rattle.outcomes.specs.Texts.{Says}
 
 pub record Begun (xs : List Expr) (s : Walk) : Type 0 where

@@ -7,5 +7,4 @@ pub mod literal;
 pub mod walk;
 
 pub use file::{checked, explain_file, refused};
-pub use lines::settle;
 pub use walk::{Outcome, Report, explain_words, left};

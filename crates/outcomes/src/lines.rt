@@ -1,27 +1,11 @@
-// Single lines, and the statuses that literals settle.
+// The lines of single words.
 ghost use Rattle.std.specs.Prelude.{◌≡◌, IfOk, string_bytes};
-ghost use Rattle.algebra.specs.Of.{rules_of, literals_of};
 ghost use Rattle.sheet.specs.Of.{bits_of};
-ghost use Rattle.sheet.specs.Statuses.{packed, statuses};
-ghost use Rattle.outcomes.specs.Lines.{settled, left_line, refused_word, verdict_of, rule_line, RuleLines};
+ghost use Rattle.outcomes.specs.Lines.{left_line, refused_word};
 
-use algebra::{Literal, Marks, Rules, Trace};
-use sheet::{Status, StatusWord};
+use algebra::Marks;
+use sheet::StatusWord;
 use std::alloc::{AllocError, Global};
-
-// The statuses after a literal. A word holds twelve events, so a literal of another changes nothing.
-pub fn settle(word: StatusWord, literal: Literal) -> StatusWord
-    ensures { bits_of result ≡ packed (settled (statuses (bits_of word)) literal) }
-{
-    let status = match literal {
-        Literal::Happened(_) => Status::Happened,
-        Literal::Never(_) => Status::Never,
-    };
-    match word.with(literal.event(), status) {
-        Some(after) => after,
-        None => word,
-    }
-}
 
 // The line of a literal that is taken: the three numbers of the position after it.
 pub(crate) fn left_line(heap: Global, word: StatusWord, marks: Marks) -> Result<String, AllocError>
@@ -38,40 +22,4 @@ pub(crate) fn refused_line(heap: Global, word: &str) -> Result<String, AllocErro
     ensures { IfOk result (λ s. string_bytes s ≡ refused_word word.now) }
 {
     format!(in heap; "(refused {word})\n")
-}
-
-// What is said of a rule.
-fn verdict(fulfilled: bool) -> &'static str
-    ensures { result.now ≡ verdict_of fulfilled }
-{
-    if fulfilled {
-        "fulfilled"
-    } else {
-        "unfulfilled"
-    }
-}
-
-// The line of a rule.
-pub(crate) fn rule_line(heap: Global, number: usize, fulfilled: bool) -> Result<String, AllocError>
-    ensures { IfOk result (λ s. string_bytes s ≡ rule_line number fulfilled) }
-{
-    let said = verdict(fulfilled);
-    format!(in heap; "(rule {number} {said})\n")
-}
-
-// The lines of all rules, numbered from 0, after a trace.
-pub(crate) fn rule_lines(heap: Global, rules: &Rules, trace: &Trace) -> Result<String, AllocError>
-    ensures { IfOk result (λ s. RuleLines (rules_of rules.now) (literals_of trace.now) (string_bytes s)) }
-{
-    let mut text = String::new(heap);
-    for number in 0..rules.len() {
-        match rules.fulfilled_by(number, trace) {
-            None => unreachable(),
-            Some(fulfilled) => {
-                let line = rule_line(heap, number, fulfilled)?;
-                text.push_str(line.as_str())?;
-            }
-        }
-    }
-    Ok(text)
 }

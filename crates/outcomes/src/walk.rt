@@ -5,10 +5,11 @@ ghost use Rattle.flow.specs.Of.{names_of, rules_of};
 ghost use Rattle.outcomes.specs.Lines.{refused_word};
 ghost use Rattle.outcomes.specs.Walks.{Begun, Took, Told, explained_word};
 
-use super::lines::{left_line, refused_line, rule_lines, settle};
+use super::lines::{left_line, refused_line};
 use super::literal::read_literal;
 use algebra::{Marks, Trace, TraceError};
 use flow::Flow;
+use report::{rule_lines, settle};
 use sheet::StatusWord;
 use std::alloc::{AllocError, Global};
 

@@ -19,7 +19,7 @@ pub says_none : (names : List (List ℕ)) (t : List ℕ) → Found names t None 
 says_none names t f g (Happened e) (h, k) q = f e h k q
 says_none names t f g (Never e) (h, k) q = g (name_at names e) (sym q) e h k refl
 
-tail_same : {m n : ℕ} {ms ns : List ℕ} → m ∷ ms ≡ n ∷ ns → ms ≡ ns
+pub tail_same : {m n : ℕ} {ms ns : List ℕ} → m ∷ ms ≡ n ∷ ns → ms ≡ ns
 tail_same e = cc
 
 pub says_none_behind : (names : List (List ℕ)) (t name : List ℕ) → t ≡ (126 ∷ []) ++ name → Found names t None → Found names name None → Says names t None

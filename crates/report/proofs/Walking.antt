@@ -23,7 +23,7 @@ use Rattle.report.specs.Lines.{settles, settled, statuses_after, marks_after, le
 use Rattle.report.specs.Texts.{Named, text_of, Says}
 use Rattle.report.specs.Walks.{Begun, Grown, Took, Spelt, Told}
 
-folded_push : {X Y : Type 0} (f : Y → X → Y) (y : Y) (xs : List X) (x : X) → fold f y (xs ++ (x ∷ [])) ≡ f (fold f y xs) x
+pub folded_push : {X Y : Type 0} (f : Y → X → Y) (y : Y) (xs : List X) (x : X) → fold f y (xs ++ (x ∷ [])) ≡ f (fold f y xs) x
 folded_push f y [] x = refl
 folded_push f y (z ∷ xs) x = folded_push f (f y z) xs x
 
@@ -32,7 +32,7 @@ length_settled ss [] = refl
 length_settled ss (l ∷ w) = length_settled (settled ss l) w ∙ length-set ss (event_of l) (settles l)
 
 -- the statuses after literals, out of their word
-statuses_after_lem : (w : List Literal) → statuses (packed (statuses_after w)) ≡ statuses_after w
+pub statuses_after_lem : (w : List Literal) → statuses (packed (statuses_after w)) ≡ statuses_after w
 statuses_after_lem w = (packing.1 (statuses_after w) (length_settled (replicate 12 Open) w)).1
 
 lines_push : (names : List (List ℕ)) (xs : List Expr) (u v : List Literal) (l : Literal) → left_lines names xs u (v ++ (l ∷ [])) ≡ left_lines names xs u v ++ left_line (text_of names l) (packed (statuses_after (u ++ (v ++ (l ∷ []))))) (marks_after xs (u ++ (v ++ (l ∷ []))))

@@ -5,5 +5,5 @@ pub mod lines;
 pub mod names;
 pub mod walk;
 
-pub use lines::settle;
+pub use lines::{rule_lines, settle};
 pub use walk::{Outcome, Report, left, refusal};

@@ -58,7 +58,7 @@ pub(crate) fn rule_line(heap: Global, number: usize, fulfilled: bool) -> Result<
 }
 
 // The lines of all rules, numbered from 0, after a trace.
-pub(crate) fn rule_lines(heap: Global, rules: &Rules, trace: &Trace) -> Result<String, AllocError>
+pub fn rule_lines(heap: Global, rules: &Rules, trace: &Trace) -> Result<String, AllocError>
     ensures { IfOk result (λ s. RuleLines (rules_of rules.now) (literals_of trace.now) (string_bytes s)) }
 {
     let mut text = String::new(heap);

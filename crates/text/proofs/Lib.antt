@@ -3,3 +3,4 @@ mod Placing
 mod Reading
 pub mod Spelling
 mod Tables
+pub mod Tokens

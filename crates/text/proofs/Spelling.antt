@@ -3,15 +3,7 @@ use Rattle.std.proofs.Common.{◌≡◌, ℕ, zero, suc, ◌<◌, Bool, true, fa
 use mathlib.Core.Bool.{false≢true}
 use Rattle.std.proofs.lemmas.Bool.{and_parts}
 use Rattle.text.specs.Words.{name_byte, Token, opens, closes, named, negated, spelt, Run, IsToken, Broken, Ends, gap, is_open, Written, spells, Tokens, OneSpelling}
-
-head_same : {x y : ℕ} {xs ys : List ℕ} → x ∷ xs ≡ y ∷ ys → x ≡ y
-head_same e = cc
-
-tail_same : {x y : ℕ} {xs ys : List ℕ} → x ∷ xs ≡ y ∷ ys → xs ≡ ys
-tail_same e = cc
-
-nil_not_cons : {x : ℕ} {xs : List ℕ} → [] ≡ x ∷ xs → ⊥
-nil_not_cons e = let z : ◌≡◌ {A = ℕ} 0 1 = cc in omega arith
+use Rattle.text.proofs.Tokens.{cons_head, cons_tail, nil_not_cons}
 
 -- bytes that all stand in names
 abbrev Inside : List ℕ → Type 0
@@ -27,53 +19,53 @@ munch (x ∷ n) [] r s f g a b e =
     let cut : name_byte (get_or s 0 0) ≡ false = b (subst (λ z. 0 < length z) e (omega arith)) in
     absurd (false≢true (sym cut ∙ ap (λ z. name_byte (get_or z 0 0)) (sym e) ∙ f 0 (omega arith)))
 munch (x ∷ n) (y ∷ m) r s f g a b e =
-    let rest = munch n m r s (λ k h. f (suc k) (omega arith)) (λ k h. g (suc k) (omega arith)) a b (tail_same e) in
-    let first = head_same e in
+    let rest = munch n m r s (λ k h. f (suc k) (omega arith)) (λ k h. g (suc k) (omega arith)) a b (cons_tail e) in
+    let first = cons_head e in
     ((let p = rest.0 in cc), rest.1)
 
 -- a name does not begin with a byte that stands in none
 no_name : (b : ℕ) (m r s : List ℕ) → name_byte b ≡ false → Run m → b ∷ r ≡ m ++ s → ⊥
 no_name b [] r s out (some, all) e = absurd (omega arith)
-no_name b (y ∷ m) r s out (some, all) e = false≢true (sym out ∙ ap name_byte (head_same e) ∙ all 0 (omega arith))
+no_name b (y ∷ m) r s out (some, all) e = false≢true (sym out ∙ ap name_byte (cons_head e) ∙ all 0 (omega arith))
 
 -- two tokens where the same bytes begin
 same_token : (t u : Token) (r s : List ℕ) → IsToken t → IsToken u → Ends t r → Ends u s → spelt t ++ r ≡ spelt u ++ s → (t ≡ u) × (r ≡ s)
-same_token opens opens r s i j a b e = (refl, tail_same e)
-same_token opens closes r s i j a b e = absurd (let q = head_same e in omega arith)
+same_token opens opens r s i j a b e = (refl, cons_tail e)
+same_token opens closes r s i j a b e = absurd (let q = cons_head e in omega arith)
 same_token opens (named m) r s i j a b e = absurd (no_name 40 m r s refl j e)
-same_token opens (negated m) r s i j a b e = absurd (let q = head_same e in omega arith)
-same_token closes opens r s i j a b e = absurd (let q = head_same e in omega arith)
-same_token closes closes r s i j a b e = (refl, tail_same e)
+same_token opens (negated m) r s i j a b e = absurd (let q = cons_head e in omega arith)
+same_token closes opens r s i j a b e = absurd (let q = cons_head e in omega arith)
+same_token closes closes r s i j a b e = (refl, cons_tail e)
 same_token closes (named m) r s i j a b e = absurd (no_name 41 m r s refl j e)
-same_token closes (negated m) r s i j a b e = absurd (let q = head_same e in omega arith)
+same_token closes (negated m) r s i j a b e = absurd (let q = cons_head e in omega arith)
 same_token (named n) opens r s i j a b e = absurd (no_name 40 n s r refl i (sym e))
 same_token (named n) closes r s i j a b e = absurd (no_name 41 n s r refl i (sym e))
 same_token (named n) (named m) r s i j a b e = let p = munch n m r s i.1 j.1 a b e in (ap named p.0, p.1)
 same_token (named n) (negated m) r s i j a b e = absurd (no_name 126 n (m ++ s) r refl i (sym e))
-same_token (negated n) opens r s i j a b e = absurd (let q = head_same e in omega arith)
-same_token (negated n) closes r s i j a b e = absurd (let q = head_same e in omega arith)
+same_token (negated n) opens r s i j a b e = absurd (let q = cons_head e in omega arith)
+same_token (negated n) closes r s i j a b e = absurd (let q = cons_head e in omega arith)
 same_token (negated n) (named m) r s i j a b e = absurd (no_name 126 m (n ++ r) s refl j e)
-same_token (negated n) (negated m) r s i j a b e = let p = munch n m r s i.1 j.1 a b (tail_same e) in (ap negated p.0, p.1)
+same_token (negated n) (negated m) r s i j a b e = let p = munch n m r s i.1 j.1 a b (cons_tail e) in (ap negated p.0, p.1)
 
 -- the same with gaps
 pub same_gapped : (tight : Bool) (t u : Token) (r s : List ℕ) → IsToken t → IsToken u → Ends t r → Ends u s → gap tight t ++ (spelt t ++ r) ≡ gap tight u ++ (spelt u ++ s) → (t ≡ u) × (r ≡ s)
 same_gapped true t u r s i j a b e = same_token t u r s i j a b e
-same_gapped false closes closes r s i j a b e = (refl, tail_same e)
-same_gapped false closes opens r s i j a b e = absurd (let q = head_same e in omega arith)
-same_gapped false closes (named m) r s i j a b e = absurd (let q = head_same e in omega arith)
-same_gapped false closes (negated m) r s i j a b e = absurd (let q = head_same e in omega arith)
-same_gapped false opens closes r s i j a b e = absurd (let q = head_same e in omega arith)
-same_gapped false opens opens r s i j a b e = same_token opens opens r s i j a b (tail_same e)
-same_gapped false opens (named m) r s i j a b e = same_token opens (named m) r s i j a b (tail_same e)
-same_gapped false opens (negated m) r s i j a b e = same_token opens (negated m) r s i j a b (tail_same e)
-same_gapped false (named n) closes r s i j a b e = absurd (let q = head_same e in omega arith)
-same_gapped false (named n) opens r s i j a b e = same_token (named n) opens r s i j a b (tail_same e)
-same_gapped false (named n) (named m) r s i j a b e = same_token (named n) (named m) r s i j a b (tail_same e)
-same_gapped false (named n) (negated m) r s i j a b e = same_token (named n) (negated m) r s i j a b (tail_same e)
-same_gapped false (negated n) closes r s i j a b e = absurd (let q = head_same e in omega arith)
-same_gapped false (negated n) opens r s i j a b e = same_token (negated n) opens r s i j a b (tail_same e)
-same_gapped false (negated n) (named m) r s i j a b e = same_token (negated n) (named m) r s i j a b (tail_same e)
-same_gapped false (negated n) (negated m) r s i j a b e = same_token (negated n) (negated m) r s i j a b (tail_same e)
+same_gapped false closes closes r s i j a b e = (refl, cons_tail e)
+same_gapped false closes opens r s i j a b e = absurd (let q = cons_head e in omega arith)
+same_gapped false closes (named m) r s i j a b e = absurd (let q = cons_head e in omega arith)
+same_gapped false closes (negated m) r s i j a b e = absurd (let q = cons_head e in omega arith)
+same_gapped false opens closes r s i j a b e = absurd (let q = cons_head e in omega arith)
+same_gapped false opens opens r s i j a b e = same_token opens opens r s i j a b (cons_tail e)
+same_gapped false opens (named m) r s i j a b e = same_token opens (named m) r s i j a b (cons_tail e)
+same_gapped false opens (negated m) r s i j a b e = same_token opens (negated m) r s i j a b (cons_tail e)
+same_gapped false (named n) closes r s i j a b e = absurd (let q = cons_head e in omega arith)
+same_gapped false (named n) opens r s i j a b e = same_token (named n) opens r s i j a b (cons_tail e)
+same_gapped false (named n) (named m) r s i j a b e = same_token (named n) (named m) r s i j a b (cons_tail e)
+same_gapped false (named n) (negated m) r s i j a b e = same_token (named n) (negated m) r s i j a b (cons_tail e)
+same_gapped false (negated n) closes r s i j a b e = absurd (let q = cons_head e in omega arith)
+same_gapped false (negated n) opens r s i j a b e = same_token (negated n) opens r s i j a b (cons_tail e)
+same_gapped false (negated n) (named m) r s i j a b e = same_token (negated n) (named m) r s i j a b (cons_tail e)
+same_gapped false (negated n) (negated m) r s i j a b e = same_token (negated n) (negated m) r s i j a b (cons_tail e)
 
 -- behind a name the line goes on with a space or a bracket, or ends
 gap_broken : (ts : List Token) → Broken (spells false ts)

@@ -21,7 +21,7 @@ pub struct Line<'a> {
 // Says that a line has a byte that stands in no flow file.
 #[derive(Clone, Copy)]
 pub struct ByteFault {
-    // Counted from 1.
+    // Counted from 1: at most one more than the file has line feeds.
     pub line: usize,
 }
 

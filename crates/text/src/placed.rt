@@ -13,7 +13,7 @@ pub struct Placed<'a> {
     // Where the word begins in the file, and where it ends: at most the place of the line's end.
     pub place: usize,
     pub end: usize,
-    // The number of the line, counted from 1.
+    // The number of the line, counted from 1: at most one more than the file has line feeds.
     pub line: usize,
 }
 

@@ -1,4 +1,4 @@
-use Rattle.std.proofs.Common.{refl, arith}
+use Rattle.std.proofs.Common.{arith}
 use Rattle.accept.proofs.Surveying.{seen_none, seen_all, seen_stuck, seen_more}
 use Rattle.accept.proofs.Tallying.{tallied_start}
 use Rattle.accept.proofs.tally.survey.Goals as goal

@@ -1,7 +1,8 @@
 use Rattle.std.proofs.Common.{false, drop, sym}
 use Rattle.text.specs.Words.{named}
 use Rattle.entries.specs.Items.{grade_text}
-use Rattle.entries.proofs.Steps.{stands_only, named_same}
+use Rattle.entries.proofs.Steps.{stands_only}
+use Rattle.text.proofs.Tokens.{named_same}
 use Rattle.entries.proofs.entry.grade_at.Goals as goal
 
 pub returns-in-None-grade_of : goal.returns-in-None-grade_of

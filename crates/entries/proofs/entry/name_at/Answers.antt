@@ -1,6 +1,7 @@
 use Rattle.std.proofs.Common.{drop}
 use Rattle.text.specs.Words.{named, token_of}
-use Rattle.entries.proofs.Steps.{stands_only, token_name}
+use Rattle.entries.proofs.Steps.{stands_only}
+use Rattle.text.proofs.Tokens.{token_name}
 use Rattle.entries.proofs.entry.name_at.Goals as goal
 
 pub returns-in-None : goal.returns-in-None

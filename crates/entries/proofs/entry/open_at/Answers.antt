@@ -1,6 +1,7 @@
 use Rattle.std.proofs.Common.{true, drop, subst}
 use Rattle.text.specs.Words.{opens, token_of, Stands}
-use Rattle.entries.proofs.Steps.{stands_only, token_open}
+use Rattle.entries.proofs.Steps.{stands_only}
+use Rattle.text.proofs.Tokens.{token_open}
 use Rattle.entries.proofs.entry.open_at.Goals as goal
 
 pub returns-in-None : goal.returns-in-None

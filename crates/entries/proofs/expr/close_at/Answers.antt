@@ -1,6 +1,7 @@
 use Rattle.std.proofs.Common.{false, drop, subst}
 use Rattle.text.specs.Words.{closes, token_of, Stands}
-use Rattle.entries.proofs.Steps.{stands_only, token_close}
+use Rattle.entries.proofs.Steps.{stands_only}
+use Rattle.text.proofs.Tokens.{token_close}
 use Rattle.entries.proofs.expr.close_at.Goals as goal
 
 pub returns-in-None : goal.returns-in-None

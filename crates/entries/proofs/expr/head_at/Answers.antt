@@ -1,7 +1,8 @@
 use Rattle.std.proofs.Common.{true, drop, sym, subst}
 use Rattle.text.specs.Words.{named, token_of, Stands}
 use Rattle.entries.specs.Forms.{head_text}
-use Rattle.entries.proofs.Steps.{stands_only, named_same, token_name}
+use Rattle.entries.proofs.Steps.{stands_only}
+use Rattle.text.proofs.Tokens.{named_same, token_name}
 use Rattle.entries.proofs.expr.head_at.Goals as goal
 
 pub returns-in-None : goal.returns-in-None

@@ -1,6 +1,7 @@
 use Rattle.std.proofs.Common.{false, drop, subst}
 use Rattle.text.specs.Words.{closes, token_of, Stands}
-use Rattle.forms.proofs.Steps.{left_to, left_from, left_none, token_close}
+use Rattle.forms.proofs.Steps.{left_to, left_from, left_none}
+use Rattle.text.proofs.Tokens.{token_close}
 use Rattle.forms.proofs.expr.close_at.Goals as goal
 
 pub returns-in-None : goal.returns-in-None

@@ -1,7 +1,8 @@
 use Rattle.std.proofs.Common.{true, drop, sym, subst}
 use Rattle.text.specs.Words.{named, token_of, Stands}
 use Rattle.forms.specs.Forms.{head_text}
-use Rattle.forms.proofs.Steps.{left_to, left_from, left_none, named_same, token_name, head_same}
+use Rattle.forms.proofs.Steps.{left_to, left_from, left_none, head_same}
+use Rattle.text.proofs.Tokens.{named_same, token_name}
 use Rattle.forms.proofs.expr.head_at.Goals as goal
 
 pub returns-in-None : goal.returns-in-None

@@ -2,7 +2,7 @@ use Rattle.std.proofs.Common.{string_bytes, sym, ◌∙◌, subst}
 use Rattle.std.proofs.lemmas.Result.{IfOk-weaker}
 use Rattle.algebra.specs.Of.{literals_of}
 use Rattle.flow.specs.Of.{names_of, rules_of}
-use Rattle.outcomes.specs.Lines.{RuleLines}
+use Rattle.report.specs.Lines.{RuleLines}
 use Rattle.outcomes.proofs.Walking.{walked_next, told_unknown, told_twice, told_complete}
 use Rattle.outcomes.proofs.walk.left.Goals as goal
 
