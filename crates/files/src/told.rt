@@ -1,9 +1,9 @@
-// Words over the flow of an approval and a plate: what is printed of them, and what is said of the first
-// that is refused.
+// What is printed of flow files, of words over the flow of an approval and a plate, and what is said of
+// what is refused.
 
 mod tests {
     use flow::Flow;
-    use outcomes::{explain_words, left};
+    use outcomes::{checked, explain_file, explain_words, left, refused};
     use std::alloc::{AllocError, Global};
     use std::process::Abort;
     use std::test::Fail;
@@ -72,5 +72,73 @@ mod tests {
             told_holds(&rt, rt.alloc(), told)?;
         }
         Ok(())
+    }
+
+    // A file, what is printed of it, and what is said of it if it is refused.
+    type Checked = (&'static [u8], &'static str, &'static str);
+
+    static CHECKED: [Checked; 5] = [
+        (
+            b"(event approve inevitable)\n(event plate flexible)\n(rule (alt ~plate (seq approve plate)))\n",
+            "(flow 2 1 3)\n",
+            "",
+        ),
+        (
+            b"(event Plate flexible)\n",
+            "(refused 2 1 bytes)\n",
+            "line 1: it has a byte that stands in no flow file: (event Plate flexible)",
+        ),
+        (
+            b"(event plate)\n",
+            "(refused 3 1 forms)\n",
+            "line 1: it has not the form of an event or a rule that may come there: (event plate)",
+        ),
+        (
+            b"(event plate flexible)\n(rule approve)\n",
+            "(refused 6 2 flow)\n",
+            "line 2: a name in it is not declared above: (rule approve)",
+        ),
+        (
+            b"(event \xff flexible)\n",
+            "(refused 2 1 bytes)\n",
+            "line 1: it has a byte that stands in no flow file: (event ? flexible)",
+        ),
+    ];
+
+    fn checked_holds(
+        rt: &impl Abort,
+        heap: Global,
+        file: &[u8],
+        printed: &str,
+        said: &str,
+    ) -> Result<(), Fail> {
+        let outcome = accept::check(file);
+        assert!(rt; checked(heap, outcome)?.as_str() == printed);
+        match outcome {
+            Ok(_) => {
+                assert!(rt; said == "");
+                Ok(())
+            }
+            Err(refusal) => {
+                assert!(rt; refused(heap, refusal)?.as_str() == printed);
+                assert!(rt; explain_file(heap, refusal, file)?.as_str() == said);
+                Ok(())
+            }
+        }
+    }
+
+    #[test]
+    fn files_are_told(rt: HostRuntime) -> Result<(), Fail> {
+        for (file, printed, said) in CHECKED.iter() {
+            checked_holds(&rt, rt.alloc(), file, printed, said)?;
+        }
+        let long = vec![in rt.alloc(); b'a'; 16_385]?;
+        checked_holds(
+            &rt,
+            rt.alloc(),
+            long.as_slice(),
+            "(refused 1 0 flow)\n",
+            "the flow file is longer than 16384 bytes",
+        )
     }
 }
