@@ -1,5 +1,4 @@
 mod Bits
-pub mod Folds
 pub mod Members
 pub mod Counts
 mod Trees

@@ -1,11 +1,11 @@
 -- Membership, and lists in which no number stands twice.
-use Rattle.std.proofs.Common.{◌≡◌, ℕ, zero, suc, ◌+◌, ◌<◌, ◌≤◌, Bool, true, false, not, eqb, ◌⊎◌, ◌↔◌, List, [], ◌∷◌, ◌++◌, map, length, get_or, drop, MatchBool, sym, refl, ap, ◌∙◌, subst, inl, inr, ⊎_elim, arith}
+use Rattle.std.proofs.Common.{◌≡◌, ℕ, zero, suc, ◌+◌, ◌<◌, ◌≤◌, Bool, true, false, not, eqb, ◌==◌, ◌⊎◌, ◌↔◌, List, [], ◌∷◌, ◌++◌, map, length, get_or, MatchBool, sym, refl, ap, ◌∙◌, subst, inl, inr, ⊎_elim, arith}
 use mathlib.Core.Bool.{false≢true}
 use mathlib.Core.List.Memᴰ
 use mathlib.Core.List.{Memᴰ}
-use Rattle.std.specs.List.{range_with_len, AllByRecursion, IsDistinct}
-use Rattle.std.proofs.lemmas.List.{map-append, drop_more, drop_all}
-use Rattle.std.proofs.lemmas.Bool.{cases_Bool, eqb-true, eq-eqb}
+use Rattle.std.specs.List.{range_with_len, AllByRecursion, IsDistinct, list_any}
+use Rattle.std.proofs.lemmas.List.{map-append}
+use Rattle.std.proofs.lemmas.Bool.{cases_Bool, eqb-true, eq-eqb, or_left, or_right, or_cases}
 use Rattle.std.proofs.lemmas.Map.Keys.{IsDistinct-head, IsDistinct-tail, IsDistinct-cons}
 use Rattle.algebra.specs.declared.literal.Literal.{Literal}
 use Rattle.algebra.specs.Literals.{event_of, Once, IsTrace}
@@ -87,13 +87,14 @@ mem_get_or [] i d h = absurd (omega arith)
 mem_get_or (x ∷ xs) zero d h = Memᴰ.head refl
 mem_get_or (x ∷ xs) (suc i) d h = Memᴰ.tail (mem_get_or xs i d (omega arith))
 
--- a search from the front: one more place is passed, or all are
-pub mem_drop_more : {X Y : Type 0} (f : X → Y) (xs : List X) (i : ℕ) (d : X) (n : Y) → i < length xs → (f (get_or xs i d) ≡ n → ⊥) → Memᴰ n (map f (drop i xs)) → Memᴰ n (map f (drop (i + 1) xs))
-mem_drop_more f xs i d n h ne k =
-    ⊎_elim (λ e. absurd (ne (sym e))) (λ l. l) (Memᴰ.cases_cons (subst (λ ys. Memᴰ n (map f ys)) (drop_more xs i d h) k))
-
-pub mem_drop_all : {X Y : Type 0} (f : X → Y) (xs : List X) (i : ℕ) (n : Y) → length xs ≤ i → Memᴰ n (map f (drop i xs)) → ⊥
-mem_drop_all f xs i n h k = Memᴰ.not-nil (subst (λ ys. Memᴰ n (map f ys)) (drop_all i xs h) k)
+-- whether `any` finds a number among those of a list
+pub among : {X : Type 0} (f : X → ℕ) (n : ℕ) (xs : List X) (r : Bool) → r ≡ list_any (λ x. f x == n) xs → (r ≡ true) ↔ Memᴰ n (map f xs)
+among f n [] r e = (λ h. absurd (false≢true (sym e ∙ h)), λ k. absurd (Memᴰ.not-nil k))
+among f n (x ∷ xs) r e =
+    let rest = among f n xs (list_any (λ y. f y == n) xs) refl in (
+      λ h. ⊎_elim (λ q. Memᴰ.head (sym (eqb-true (f x) n q))) (λ q. Memᴰ.tail (rest.0 q)) (or_cases (f x == n) _ (sym e ∙ h)),
+      λ k. e ∙ ⊎_elim (λ q. or_left (f x == n) _ (eq-eqb (f x) n (sym q))) (λ q. or_right (f x == n) _ (rest.1 q)) (Memᴰ.cases_cons k),
+    )
 
 -- one literal more is taken where its event does not stand in the trace yet
 pub takes_from_settles : (w : List Literal) (l : Literal) (e : ℕ) (r : Bool) → IsTrace w → e ≡ event_of l → (r ≡ true) ↔ Memᴰ e (map event_of w) → MatchBool (not r) (IsTrace (w ++ (l ∷ [])) × Out (event_of l) (map event_of w)) (Memᴰ (event_of l) (map event_of w))

@@ -9,7 +9,7 @@ use super::literal::Literal;
 use super::marks::Marks;
 
 // What a leaf says: a literal, `yes`, which every trace meets, or `no`, which none meets.
-#[derive(Clone, Copy)]
+#[derive(Clone, Copy, Debug, PartialEq, Eq)]
 pub enum Atom {
     Lit(Literal),
     Yes,
@@ -18,7 +18,7 @@ pub enum Atom {
 
 // `alt` is met by meeting either part, `all` by meeting both, and `seq` by a front that meets the
 // first part and a rest that meets the second; front or rest may be empty.
-#[derive(Clone, Copy)]
+#[derive(Clone, Copy, Debug, PartialEq, Eq)]
 pub enum Head {
     Alt,
     All,
@@ -105,17 +105,8 @@ impl Expr {
         ensures { MatchOption result (Counts first (leaves self.now) → ⊥) (λ next. Counts first (leaves self.now) × (next ≡ first + length (leaves self.now)) × (next ≤ 64)) }
     {
         match self {
-            Expr::Leaf(_, leaf) => {
-                if leaf.value() == first {
-                    Some(first + 1)
-                } else {
-                    None
-                }
-            }
-            Expr::Binary(_, a, b) => {
-                let next = a.numbers_on(first)?;
-                b.numbers_on(next)
-            }
+            Expr::Leaf(_, leaf) => (leaf.value() == first).then(|| first + 1),
+            Expr::Binary(_, a, b) => b.numbers_on(a.numbers_on(first)?),
         }
     }
 }

@@ -7,7 +7,7 @@ use super::leaf::LeafNumber;
 // A set of leaves that are met and a set of leaves that are struck: bit i stands for leaf i.
 // Each word may be any number of 64 bits. A leaf that is in both sets counts as met; where leaves
 // have distinct numbers, none comes to be.
-#[derive(Clone, Copy)]
+#[derive(Clone, Copy, Debug, PartialEq, Eq)]
 pub struct Marks {
     pub met: u64,
     pub struck: u64,

@@ -50,19 +50,18 @@ impl Rules {
         ensures same { IfErr result (λ e. e ≡ RulesError.Misnumbered rule → self.new ≡ self.old) }
         ensures full { IfErr result (λ e. e ≡ RulesError.Memory rule → vec_capacity self.old.list ≤ vec_len self.old.list) }
     {
-        match self.next_after(&rule) {
-            None => Err(RulesError::Misnumbered(rule)),
-            Some(next) => match self.list.push(rule) {
-                Ok(()) => {
-                    self.next = next;
-                    Ok(())
-                }
-                Err(refused) => Err(RulesError::Memory(refused.value)),
-            },
-        }
+        let Some(next) = self.next_after(&rule) else {
+            return Err(RulesError::Misnumbered(rule));
+        };
+        self.list
+            .push(rule)
+            .map_err(|refused| RulesError::Memory(refused.value))?;
+        self.next = next;
+        Ok(())
     }
 
     // The number that the next leaf has once a rule is added; absent if its leaves are not numbered on.
+    #[tactic(auto, using(crate::proofs::Counts::next_from_said))]
     fn next_after(&self, rule: &Expr) -> Option<u8>
         ensures { Next self.now.list.items rule.now result }
     {
@@ -80,18 +79,12 @@ impl Rules {
     pub fn leaf_count(&self) -> u8
         ensures { (result ≡ length (flat_map leaves self.now.list.items)) × (result ≤ 64) }
     {
-        let leaves = self.next;
-        leaves
+        self.next
     }
 
     // The rule of a number, counted from 0; absent past the last.
+    #[tactic(auto, using(crate::proofs::Laws::rule_at))]
     pub fn get(&self, number: usize) -> Option<&Expr>
-        ensures { RuleAt self.now.list.items number (option_map (λ x. x.now) result) }
-    {
-        self.rule(number)
-    }
-
-    fn rule(&self, number: usize) -> Option<&Expr>
         ensures { RuleAt self.now.list.items number (option_map (λ x. x.now) result) }
     {
         self.list.get(number)
@@ -101,33 +94,29 @@ impl Rules {
     pub fn fresh(&self) -> Marks
         ensures { result ≡ fresh_all self.now.list.items }
     {
-        let mut sum = Marks::none();
-        for rule in self.list.iter() {
-            sum = sum.union(rule.fresh());
-        }
-        sum
+        self.list
+            .iter()
+            .fold(Marks::none(), |sum, rule| sum.union(rule.fresh()))
     }
 
     // Applies a literal to every rule: the marks afterwards. Each rule reads the marks before it.
     pub fn apply(&self, literal: Literal, before: Marks) -> Marks
         ensures { result ≡ applied_all self.now.list.items before literal }
     {
-        let mut after = before;
-        for rule in self.list.iter() {
-            after = after.union(rule.gains(literal, before));
-        }
-        after
+        self.list.iter().fold(
+            before,
+            |after, rule| after.union(rule.gains(literal, before)),
+        )
     }
 
     // The marks after a trace.
     fn after(&self, trace: &Trace) -> Marks
         ensures { result ≡ fold (applied_all self.now.list.items) (fresh_all self.now.list.items) trace.now.literals.items }
     {
-        let mut marks = self.fresh();
-        for literal in trace.literals() {
-            marks = self.apply(*literal, marks);
-        }
-        marks
+        trace
+            .literals()
+            .iter()
+            .fold(self.fresh(), |marks, &literal| self.apply(literal, marks))
     }
 
     // Applies a trace to the rules, and says whether the rule of a number is fulfilled then: that is,
@@ -137,10 +126,8 @@ impl Rules {
         ensures one { LeftOfOne }
         ensures each { LeftOfRules }
     {
-        match self.rule(number) {
-            None => None,
-            Some(rule) => Some(self.judge(rule, trace)),
-        }
+        let rule = self.get(number)?;
+        Some(self.judge(rule, trace))
     }
 
     // Whether an expression is fulfilled after a trace; of a rule of the list, whether the trace meets it.

@@ -2,10 +2,11 @@
 ghost use Rattle.std.specs.Prelude.{◌≡◌, ◌≤◌, true, ◌↔◌, [], ◌∷◌, ◌++◌, map, IfErr, vec_len, vec_capacity, MatchBool};
 ghost use mathlib.Core.List.{Memᴰ};
 ghost use Rattle.std.proofs.Props.{props};
+ghost use Rattle.algebra.specs.declared.trace.TraceError.TheVariants.{Memory};
 ghost use Rattle.algebra.specs.Literals.{event_of, IsTrace, Taken};
 
 use super::literal::Literal;
-use std::alloc::Global;
+use std::alloc::{AllocFailed, Global};
 
 // A list of literals in which no event stands twice, under either sign: at most 256 literals, one for each event number.
 #[derive(Drop)]
@@ -15,12 +16,20 @@ pub struct Trace {
 }
 
 // Why a trace does not take a literal.
-#[derive(Clone, Copy)]
+#[derive(Clone, Copy, Debug, PartialEq, Eq)]
 pub enum TraceError {
     // The literal's event stands in the trace already.
     Twice,
     // There is no memory for one literal more.
     Memory,
+}
+
+impl<T: Drop> From<AllocFailed<T>> for TraceError {
+    ghost from_gives = { λ _ e. e ≡ Memory };
+
+    fn from(_refused: AllocFailed<T>) -> TraceError {
+        TraceError::Memory
+    }
 }
 
 impl Trace {
@@ -43,15 +52,11 @@ impl Trace {
     fn settles(&self, event: u8) -> bool
         ensures { (result ≡ true) ↔ Memᴰ event (map event_of self.now.literals.items) }
     {
-        for literal in self.literals.iter() {
-            if literal.event() == event {
-                return true;
-            }
-        }
-        false
+        self.literals.iter().any(|literal| literal.event() == event)
     }
 
     // Whether the trace with one literal more is a trace: the literal's event does not stand in it yet.
+    #[tactic(auto, using(crate::proofs::Members::takes_from_settles))]
     fn takes(&self, literal: Literal) -> bool
         ensures { MatchBool result (IsTrace (self.now.literals.items ++ (literal ∷ [])) × (Memᴰ (event_of literal) (map event_of self.now.literals.items) → ⊥)) (Memᴰ (event_of literal) (map event_of self.now.literals.items)) }
     {
@@ -67,9 +72,7 @@ impl Trace {
         if !self.takes(literal) {
             return Err(TraceError::Twice);
         }
-        match self.literals.push(literal) {
-            Ok(()) => Ok(()),
-            Err(_) => Err(TraceError::Memory),
-        }
+        self.literals.push(literal)?;
+        Ok(())
     }
 }
