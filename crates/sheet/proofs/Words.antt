@@ -1,5 +1,5 @@
 -- Packing statuses into a number, and taking them out.
-use Rattle.std.proofs.Common.{◌≡◌, ℕ, zero, suc, ◌+◌, ◌-◌, ◌*◌, ◌/◌, ◌%◌, ◌^◌, ◌<◌, ◌≤◌, List, [], ◌∷◌, length, set, Some, None, Option, sym, refl, ap, ◌∙◌, subst, le_trans, lt_of_lt_of_le, mul-le-mul_right, mod-eq_of_lt, div-mul-le_self, div-one, mul_left_comm, arith, length-set, pow_mono, pow-add, MatchOption}
+use Rattle.std.proofs.Common.{◌≡◌, ℕ, zero, suc, ◌+◌, ◌-◌, ◌*◌, ◌/◌, ◌%◌, ◌^◌, ◌<◌, ◌≤◌, List, [], ◌∷◌, length, set, Some, None, sym, refl, ap, ◌∙◌, subst, le_trans, lt_of_lt_of_le, mul-le-mul_right, mod-eq_of_lt, div-mul-le_self, div-one, mul_left_comm, arith, length-set, pow_mono, pow-add}
 use native.Mathlib.Nat.{pow-succ', div-div-eq-div-mul, mod-le}
 use lib.Bits.{bit_and, and_mask}
 use Rattle.std.specs.List.{slice_get}
@@ -103,13 +103,13 @@ module _ (w e : ℕ) (s : Status) (few : w < 2 ^ 24) (h : e < 12) where
   abbrev old : ℕ
   old = w / place % 4
 
-  pub old_fits : old * place ≤ w
+  old_fits : old * place ≤ w
   old_fits = le_trans (mul-le-mul_right place (mod-le (w / place) 4)) (div-mul-le_self w place)
 
-  pub new_fits : number s * place < 2 ^ 24
+  new_fits : number s * place < 2 ^ 24
   new_fits = lt_of_lt_of_le (shl_below (number s) 2 (2 * e) (number_few s)) (pow_mono {i = 2 + 2 * e} {j = 24} (omega arith))
 
-  pub with_word : packed (set (statuses w) e s) + old * place ≡ w + number s * place
+  with_word : packed (set (statuses w) e s) + old * place ≡ w + number s * place
   with_word =
       let digit : number (status_of old) ≡ old = number_of old (omega arith) in
       let moved = packed_set (statuses w) e (status_of old) s (nth_statuses w e h) in
@@ -117,14 +117,14 @@ module _ (w e : ℕ) (s : Status) (few : w < 2 ^ 24) (h : e < 12) where
       subst (λ p. packed (set (statuses w) e s) + old * p ≡ w + number s * p) (four_power e)
       (sym (ap (λ n. packed (set (statuses w) e s) + n * 4 ^ e) digit) ∙ moved ∙ ap (λ n. n + number s * 4 ^ e) whole)
 
-  pub with_few : packed (set (statuses w) e s) < 2 ^ 24
+  with_few : packed (set (statuses w) e s) < 2 ^ 24
   with_few = (packing.1 (set (statuses w) e s) (length-set (statuses w) e s ∙ length_statuses w)).0
 
   -- as the code shifts them, in 32 bits
-  pub old_shifted : (bit_and (w / place) 3 * place) % 2 ^ 32 ≡ old * place
+  old_shifted : (bit_and (w / place) 3 * place) % 2 ^ 32 ≡ old * place
   old_shifted = ap (λ n. (n * place) % 2 ^ 32) (and_mask (w / place) 2) ∙ mod-eq_of_lt (let k = old_fits in omega arith)
 
-  pub new_shifted : (number s * place) % 2 ^ 32 ≡ number s * place
+  new_shifted : (number s * place) % 2 ^ 32 ≡ number s * place
   new_shifted = mod-eq_of_lt (let k = new_fits in omega arith)
 
   pub old_taken : (bit_and (w / place) 3 * place) % 2 ^ 32 ≤ w
@@ -138,11 +138,13 @@ module _ (w e : ℕ) (s : Status) (few : w < 2 ^ 24) (h : e < 12) where
       let g = with_word in
       omega arith
 
--- the status that a digit stands for, where a number's status was asked for
-pub nth_asked : (w e : ℕ) (r : Option Status) → e < 12 → MatchOption r (4 ≤ bit_and (w / 2 ^ (2 * e)) 3) (λ s. number s ≡ bit_and (w / 2 ^ (2 * e)) 3) → r ≡ slice_get (statuses w) e
-nth_asked w e None h k = absurd (omega (arith, and_mask (w / 2 ^ (2 * e)) 2))
-nth_asked w e (Some s) h k =
-    ap Some (sym (of_number s) ∙ ap status_of (k ∙ and_mask (w / 2 ^ (2 * e)) 2)) ∙ sym (nth_statuses w e h)
+  pub shifted_few : (new : ℕ) → new ≡ number s → w - (bit_and (w / place) 3 * place) % 2 ^ 32 + (new * place) % 2 ^ 32 < 2 ^ 24
+  shifted_few new is = let a = with_shifted new is in let b = with_few in omega arith
 
-pub nth_absent : (w e : ℕ) → 12 ≤ e → None ≡ slice_get (statuses w) e
-nth_absent w e h = sym (slice_get_past (statuses w) e (let l = length_statuses w in omega arith))
+-- the status whose number an event's two bits hold
+pub nth_numbered : (w e : ℕ) (s : Status) → e < 12 → number s ≡ bit_and (w / 2 ^ (2 * e)) 3 → slice_get (statuses w) e ≡ Some s
+nth_numbered w e s h is =
+    nth_statuses w e h ∙ ap Some (ap status_of (sym (is ∙ and_mask (w / 2 ^ (2 * e)) 2)) ∙ of_number s)
+
+pub nth_absent : (w e : ℕ) → 12 ≤ e → slice_get (statuses w) e ≡ None
+nth_absent w e h = slice_get_past (statuses w) e (let l = length_statuses w in omega arith)

@@ -1,64 +1,23 @@
 // Comparing what two sheets tell.
-ghost use Rattle.std.specs.Prelude.{◌≡◌, true, ◌↔◌, Decides};
-ghost use Rattle.sheet.specs.Sameness.{same_grade, same_event, same_grade-laws, same_event-laws};
+ghost use Rattle.std.specs.Prelude.{◌≡◌, true, ◌↔◌};
+ghost use Rattle.std.specs.List.{slice_get};
+ghost use Rattle.sheet.specs.Sameness.{Sameness};
 
-use super::grade::{Event, Grade};
 use super::sheet::Sheet;
 
-impl PartialEq for Grade {
-    ghost eq = { same_grade };
-
-    ghost laws = { same_grade-laws };
-
-    fn eq(&self, other: &Grade) -> bool
-        ensures answer { result ≡ same_grade self.now other.now }
-        ensures decides { Decides result (self.now ≡ other.now) }
-    {
-        match (*self, *other) {
-            (Grade::Flexible, Grade::Flexible) => true,
-            (Grade::Inevitable, Grade::Inevitable) => true,
-            (Grade::Immediate, Grade::Immediate) => true,
-            _ => false,
-        }
-    }
-}
-
-impl PartialEq for Event {
-    ghost eq = { same_event };
-
-    ghost laws = { same_event-laws };
-
-    fn eq(&self, other: &Event) -> bool
-        ensures answer { result ≡ same_event self.now other.now }
-        ensures decides { Decides result (self.now ≡ other.now) }
-    {
-        self.grade == other.grade && self.forcible == other.forcible
-    }
-}
-
 // Whether two sheets tell the same events.
+#[tactic(auto, using(crate::proofs::Equality::sameness))]
 pub fn same_events<S: Sheet, U: Sheet>(left: &S, right: &U) -> bool
-    ensures { (result ≡ true) ↔ (S.Sheet.events left.now ≡ U.Sheet.events right.now) }
+    ensures same { (result ≡ true) ↔ (S.Sheet.events left.now ≡ U.Sheet.events right.now) }
+    ensures equality { Sameness }
 {
     let count = left.count();
-    if count != right.count() {
-        return false;
-    }
-    for number in 0..count {
-        if !same_told(left.event(number), right.event(number)) {
-            return false;
-        }
-    }
-    true
+    count == right.count() && (0..count).all(|number| same_event(left, right, number))
 }
 
-// Whether two events, or two absent ones, are told alike.
-fn same_told(left: Option<Event>, right: Option<Event>) -> bool
-    ensures { (result ≡ true) ↔ (left ≡ right) }
+// Whether two sheets tell the same of one event, which may be absent on either.
+fn same_event<S: Sheet, U: Sheet>(left: &S, right: &U, number: u8) -> bool
+    ensures { (result ≡ true) ↔ (slice_get (S.Sheet.events left.now) number ≡ slice_get (U.Sheet.events right.now) number) }
 {
-    match (left, right) {
-        (Some(a), Some(b)) => a == b,
-        (None, None) => true,
-        _ => false,
-    }
+    left.event(number) == right.event(number)
 }

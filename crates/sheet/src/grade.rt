@@ -1,7 +1,7 @@
 // What is told of an event before anything happened.
 
 // How far an event can be put off.
-#[derive(Clone, Copy)]
+#[derive(Clone, Copy, Debug, PartialEq, Eq)]
 pub enum Grade {
     // It may be delayed and rejected.
     Flexible,
@@ -12,7 +12,7 @@ pub enum Grade {
 }
 
 // An event as a sheet tells it: its grade, and whether the scheduler may force it.
-#[derive(Clone, Copy)]
+#[derive(Clone, Copy, Debug, PartialEq, Eq)]
 pub struct Event {
     pub grade: Grade,
     pub forcible: bool,

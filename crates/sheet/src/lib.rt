@@ -11,5 +11,5 @@ pub mod word;
 pub use compare::same_events;
 pub use grade::{Event, Grade};
 pub use sheet::Sheet;
-pub use status::Status;
-pub use word::StatusWord;
+pub use status::{Status, UnknownStatus};
+pub use word::{StatusWord, TooManyBits};
