@@ -1,29 +1,37 @@
 -- Lines cut out of a file.
-use Rattle.std.proofs.Common.{◌≡◌, ℕ, ◌+◌, ◌-◌, ◌<◌, ◌≤◌, true, false, List, [], length, get_or, take, drop, sym, ap, ◌∙◌, subst, ⊎_elim, arith, length-drop, take-append-drop}
+use Rattle.std.proofs.Common.{◌≡◌, ◌==◌, ℕ, ◌+◌, ◌-◌, ◌<◌, ◌≤◌, Bool, true, false, MatchBool, Option, None, Some, MatchOption, List, [], length, get_or, take, drop, sym, ap, ◌∙◌, subst, ⊎_elim, arith, length-drop, take-append-drop}
 use Rattle.std.proofs.lemmas.List.{drop_more, drop_all, drop-append-le, take_all, get_or-take, get_or-drop, length-take-le}
 use Rattle.std.proofs.lemmas.Bool.{cases_lt}
 use Rattle.text.specs.declared.kind.Kind.TheVariants.{Other}
 use Rattle.text.specs.Kinds.{kind_of}
-use Rattle.text.specs.Lines.{NoFeed, FeedNext, FirstLine, ended, Strange}
+use Rattle.std.specs.Option.{option_map}
+use Rattle.std.specs.List.{HoldsAt, AllWithin, position}
+use mathlib.Core.Bool.{false≢true}
+use Rattle.std.proofs.lemmas.Bool.{eqb-true, eq-eqb}
+use Rattle.text.proofs.Searching.{here, none_before, first_found}
+use Rattle.text.specs.Lines.{NoFeed, EndsAt, FeedNext, FirstLine, ended, Strange}
 use Rattle.text.specs.declared.line.Line.{Line}
 use Rattle.text.specs.Files.{CutAt}
 
+-- whether a search of a line's bytes found one that stands in no flow file
+pub strange_or_not : (line : List ℕ) (r : Bool) → MatchBool r ((k : ℕ) × (k < length line) × HoldsAt (λ b. kind_of b ≡ Other) line k) (AllWithin (λ b. kind_of b ≡ Other → ⊥) line 0 (length line))
+    → MatchBool r (Strange line) (Strange line → ⊥)
+strange_or_not line true (k, low, is) = (k, low, is 0)
+strange_or_not line false none = λ (k, low, is). none k 0 (omega arith) low is
+
 module _ (bs : List ℕ) (a : ℕ) where
-  abbrev NoneTo : ℕ → Type 0
-  NoneTo b = (k : ℕ) → a ≤ k → k < b → kind_of (get_or bs k 0) ≡ Other → ⊥
-
-  pub strange_at : (i : ℕ) → a ≤ i → i < length bs → kind_of (get_or bs i 0) ≡ Other → Strange (drop a bs)
-  strange_at i low high is =
-      let q : a + (i - a) ≡ i = omega arith in
-      (i - a, (let l = length-drop a bs in omega arith), ap kind_of (get_or-drop a bs (i - a) 0 ∙ ap (λ k. get_or bs k 0) q) ∙ is)
-
-  pub none_more : (i : ℕ) → NoneTo i → (kind_of (get_or bs i 0) ≡ Other → ⊥) → NoneTo (i + 1)
-  none_more i none here k low high is =
-      ⊎_elim (λ lt. none k low lt is) (λ ge. here (ap (λ n. kind_of (get_or bs n 0)) (let q : i ≡ k = omega arith in q) ∙ is)) (cases_lt k i)
-
-  pub none_strange : NoneTo (length bs) → Strange (drop a bs) → ⊥
-  none_strange none (k, low, is) =
-      none (a + k) (omega arith) (let l = length-drop a bs in omega arith) (ap kind_of (sym (get_or-drop a bs k 0)) ∙ is)
+  -- the first line feed behind place a, by the place of the whole file
+  pub feed_first : (r : Option ℕ) → r ≡ position (λ b. b == 10) (drop a bs) → EndsAt bs a (option_map (λ i. a + i) r)
+  feed_first None e =
+      let none = first_found bs a (λ b. b == 10) None e in
+      λ k low high is. false≢true (sym (none_before bs a (λ b. (b == 10) ≡ false) _ none k low (let l = length-drop a bs in omega arith)) ∙ eq-eqb (get_or bs k 0) 10 is)
+  feed_first (Some i) e =
+      let (within, is, none) = first_found bs a (λ b. b == 10) (Some i) e in (
+        omega arith,
+        (let l = length-drop a bs in omega arith),
+        eqb-true (get_or bs (a + i) 0) 10 (here bs a (λ b. (b == 10) ≡ true) i is),
+        λ k low high feed. false≢true (sym (none_before bs a (λ b. (b == 10) ≡ false) i none k low high) ∙ eq-eqb (get_or bs k 0) 10 feed),
+      )
 
   -- a line that ends at place e of the file
   first_line : (e : ℕ) → a ≤ e → e ≤ length bs → NoFeed bs a e → FeedNext (drop e bs) → FirstLine (drop a bs) (drop a (take e bs)) (drop e bs)
@@ -67,3 +75,9 @@ module _ (bs : List ℕ) (a : ℕ) where
         (subst (λ t. FirstLine (drop a bs) [] t) (sym done) (drop_all a bs ge, (λ k h e. omega arith), tt)))
         (cases_lt a (length bs)))
         (λ long. was ∙ ap ended (sym (ap (λ k. drop k bs) long ∙ drop_all (length bs) bs (omega arith))))
+
+  -- the line up to its line feed, if one ends it
+  pub line_cut : (n : ℕ) (l : Line) → l.start ≡ a → l.number ≡ n → (r : Option ℕ) → EndsAt bs a r
+      → MatchOption r ((l.text.now ≡ bs) × (l.ended ≡ false)) (λ e. (l.text.now ≡ take e bs) × (l.ended ≡ true)) → CutAt bs a n l
+  line_cut n l start number None none (is, was) = cut_none n l start number is was (λ lt. none)
+  line_cut n l start number (Some e) (low, high, feed, none) (is, was) = cut_some n l start number e is was low high feed none

@@ -1,6 +1,7 @@
 mod Cutting
 mod Placing
 mod Reading
+mod Searching
 pub mod Spelling
 mod Tables
 pub mod Tokens

@@ -1,8 +1,9 @@
 -- The bytes of a line's words determine the words.
-use Rattle.std.proofs.Common.{◌≡◌, ℕ, zero, suc, ◌<◌, Bool, true, false, ◌&&◌, List, [], ◌∷◌, ◌++◌, length, get_or, Decides, MatchBool, sym, refl, ap, ◌∙◌, subst, arith}
+use Rattle.std.proofs.Common.{◌≡◌, ℕ, zero, suc, ◌<◌, Bool, true, false, ◌&&◌, List, [], ◌∷◌, ◌++◌, length, get_or, sym, refl, ap, ◌∙◌, subst, arith}
 use mathlib.Core.Bool.{false≢true}
 use Rattle.std.proofs.lemmas.Bool.{and_parts}
-use Rattle.text.specs.Words.{name_byte, Token, opens, closes, named, negated, spelt, Run, IsToken, Broken, Ends, gap, is_open, Written, spells, Tokens, OneSpelling}
+use Rattle.text.specs.Names.{name_byte, Run}
+use Rattle.text.specs.Words.{Token, opens, closes, named, negated, spelt, IsToken, Broken, Ends, gap, is_open, Written, spells, Tokens, OneSpelling}
 use Rattle.text.proofs.Tokens.{cons_head, cons_tail, nil_not_cons}
 
 -- bytes that all stand in names
@@ -124,7 +125,3 @@ inside_all (x ∷ n) all (suc k) h = inside_all n (and_parts (name_byte x) (insi
 
 pub run_of : (n : List ℕ) → 0 < length n → inside n ≡ true → Run n
 run_of n some all = (some, inside_all n all)
-
-pub decided : {P : Type 0} (b : Bool) → Decides b P → MatchBool b P (P → ⊥)
-decided true (to, from) = to refl
-decided false (to, from) = λ p. false≢true (from p)

@@ -1,8 +1,9 @@
 -- Lists by their first element, and tokens by their words.
-use Rattle.std.proofs.Common.{◌≡◌, ℕ, List, [], ◌∷◌, refl, arith, Bor}
+use Rattle.std.proofs.Common.{◌≡◌, ℕ, List, [], ◌∷◌, refl, arith}
+use Rattle.text.specs.declared.name.NameRun.{NameRun}
 use Rattle.text.specs.declared.word.Word.{Word}
 use Rattle.text.specs.declared.word.Word.TheVariants.{Open, Close, Name, Never}
-use Rattle.text.specs.Words.{token_of, opens, closes, named, negated}
+use Rattle.text.specs.Words.{token_of, opens, named, negated}
 
 pub cons_head : {X : Type 0} {x y : X} {xs ys : List X} → x ∷ xs ≡ y ∷ ys → x ≡ y
 cons_head e = cc
@@ -22,19 +23,13 @@ named_same e = cc
 pub negated_same : {m n : List ℕ} → negated m ≡ negated n → m ≡ n
 negated_same e = cc
 
-pub token_close : (w : Word) → closes ≡ token_of w → w ≡ Close
-token_close Open e = absurd (apart (cc))
-token_close Close e = refl
-token_close (Name n) e = absurd (apart (cc))
-token_close (Never n) e = absurd (apart (cc))
-
 pub token_open : (w : Word) → opens ≡ token_of w → w ≡ Open
 token_open Open e = refl
 token_open Close e = absurd (apart (cc))
 token_open (Name n) e = absurd (apart (cc))
 token_open (Never n) e = absurd (apart (cc))
 
-pub token_name : (w : Word) (n : List ℕ) → named n ≡ token_of w → (m : Bor (List ℕ)) × (w ≡ Name m)
+pub token_name : (w : Word) (n : List ℕ) → named n ≡ token_of w → (m : NameRun) × (w ≡ Name m)
 token_name Open n e = absurd (apart (cc))
 token_name Close n e = absurd (apart (cc))
 token_name (Name m) n e = (m, refl)

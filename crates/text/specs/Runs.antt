@@ -4,17 +4,18 @@
 --     InnerAt bs a r       r is the word other than a closing bracket that stands at place a; absent if none does
 --     NextAt tight bs a r  r is the word that stands at place a, after its gap; absent if none does
 use Rattle.std.specs.Prelude.{◌≡◌, ℕ, ◌<◌, ◌≤◌, Bool, true, false, List, ◌++◌, length, drop, Some, None, Option, ◌≢◌, slice_index}
-use Rattle.std.specs.Borrow.{Bor}
+use Rattle.text.specs.declared.name.NameRun.{NameRun}
 use Rattle.text.specs.declared.word.Next.{Next}
-use Rattle.text.specs.Words.{name_byte, Token, token_of, spelt, Run, IsToken, Broken, Ends, Stands, Inner}
+use Rattle.text.specs.Names.{name_byte, Run}
+use Rattle.text.specs.Words.{Token, token_of, spelt, IsToken, Broken, Ends, Stands, Inner}
 
 abbrev pub EndOfRun : List ℕ → ℕ → ℕ → Type 0
 EndOfRun bs a e =
     (a ≤ e) × (e ≤ length bs) × ((k : ℕ) → a ≤ k → k < e → name_byte (slice_index bs k) ≡ true) × (e < length bs → name_byte (slice_index bs e) ≡ false)
 
-abbrev pub NameAt : List ℕ → ℕ → Option (Bor (List ℕ) × ℕ) → Type 0
+abbrev pub NameAt : List ℕ → ℕ → Option (NameRun × ℕ) → Type 0
 NameAt bs a None = (n rest : List ℕ) → Run n → drop a bs ≢ n ++ rest
-NameAt bs a (Some (n, e)) = (a < e) × (e ≤ length bs) × Run n.now × (drop a bs ≡ n.now ++ drop e bs) × Broken (drop e bs)
+NameAt bs a (Some (n, e)) = (a < e) × (e ≤ length bs) × (drop a bs ≡ n.bytes.now ++ drop e bs) × Broken (drop e bs)
 
 abbrev pub InnerAt : List ℕ → ℕ → Option Next → Type 0
 InnerAt bs a None = (t : Token) (rest : List ℕ) → Inner t → IsToken t → drop a bs ≡ spelt t ++ rest → Ends t rest → ⊥

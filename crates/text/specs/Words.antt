@@ -1,11 +1,8 @@
 -- Words of a line, and the bytes that they are written with. Assumes nothing.
---     in_name k                 bytes of the kind k stand in names: letters, digits and hyphens
---     name_byte b               the byte b may stand in a name
 --     Token                     a word by its text: an opening or closing bracket, a name, a name behind `~`
 --     token_of w                a word as a token
 --     spelt t                   the bytes of a token
---     Run n                     n is a name as far as words go: one or more bytes that may stand in names
---     IsToken t                 the name of the token, if it has one, is such a run
+--     IsToken t                 the name of the token, if it has one, is a run of bytes that may stand in names
 --     Broken rest               rest does not begin with a byte of a name
 --     Ends t rest               rest goes on after t: where t ends in a name, rest does not begin with a byte of a name
 --     gap tight t               what stands between t and the word before it: nothing behind an opening bracket or at a
@@ -18,25 +15,9 @@
 --     Tokens ts                 each of ts is a token
 --     OneSpelling               bytes are those of at most one list of tokens
 use Rattle.std.specs.Prelude.{◌≡◌, ℕ, ◌<◌, Bool, true, false, List, [], ◌∷◌, ◌++◌, length, slice_index}
-use Rattle.text.specs.declared.kind.Kind.{Kind}
-use Rattle.text.specs.declared.kind.Kind.TheVariants as kind
 use Rattle.text.specs.declared.word.Word.{Word}
 use Rattle.text.specs.declared.word.Word.TheVariants.{Open, Close, Name, Never}
-use Rattle.text.specs.Kinds.{kind_of}
-
-abbrev pub in_name : Kind → Bool
-in_name kind.Letter = true
-in_name kind.Digit = true
-in_name kind.Hyphen = true
-in_name kind.Tilde = false
-in_name kind.Open = false
-in_name kind.Close = false
-in_name kind.Space = false
-in_name kind.LineFeed = false
-in_name kind.Other = false
-
-abbrev pub name_byte : ℕ → Bool
-name_byte b = in_name (kind_of b)
+use Rattle.text.specs.Names.{name_byte, Run}
 
 pub data Token : Type 0 where
   opens closes : Token
@@ -45,17 +26,14 @@ pub data Token : Type 0 where
 abbrev pub token_of : Word → Token
 token_of Open = opens
 token_of Close = closes
-token_of (Name n) = named n.now
-token_of (Never n) = negated n.now
+token_of (Name n) = named n.bytes.now
+token_of (Never n) = negated n.bytes.now
 
 abbrev pub spelt : Token → List ℕ
 spelt opens = 40 ∷ []
 spelt closes = 41 ∷ []
 spelt (named n) = n
 spelt (negated n) = 126 ∷ n
-
-abbrev pub Run : List ℕ → Type 0
-Run n = (0 < length n) × ((k : ℕ) → k < length n → name_byte (slice_index n k) ≡ true)
 
 abbrev pub IsToken : Token → Type 0
 IsToken opens = Unit {0}

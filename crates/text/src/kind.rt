@@ -5,7 +5,7 @@ ghost use Rattle.text.specs.Kinds.{kind_of};
 
 use Kind::{Close, Digit, Hyphen, Letter, LineFeed, Open, Other, Space, Tilde};
 
-#[derive(Clone, Copy)]
+#[derive(Clone, Copy, Debug, PartialEq, Eq)]
 pub enum Kind {
     // A lower-case letter.
     Letter,

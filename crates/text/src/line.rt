@@ -1,5 +1,5 @@
 // The lines of a file.
-ghost use Rattle.std.specs.Prelude.{◌<◌, length, drop, MatchBool};
+ghost use Rattle.std.specs.Prelude.{◌≡◌, ◌<◌, ◌==◌, length, drop, position, IfSome, MatchBool};
 ghost use Rattle.text.specs.Lines.{EndsAt, Strange};
 ghost use Rattle.text.specs.Files.{bytes_of, CutAt, LineAt};
 
@@ -19,7 +19,7 @@ pub struct Line<'a> {
 }
 
 // Says that a line has a byte that stands in no flow file.
-#[derive(Clone, Copy)]
+#[derive(Clone, Copy, Debug, PartialEq, Eq)]
 pub struct ByteFault {
     // Counted from 1: at most one more than the file has line feeds.
     pub line: usize,
@@ -27,26 +27,17 @@ pub struct ByteFault {
 
 // The place of the first line feed from a place on; absent if there is none.
 pub fn line_end(bytes: &[u8], from: usize) -> Option<usize>
-    requires { from < length bytes.now }
     ensures { EndsAt bytes.now from result }
 {
-    for i in from..bytes.len() {
-        if bytes[i] == b'\n' {
-            return Some(i);
-        }
-    }
-    None
+    first_feed(bytes.get(from..)?).map(|ahead| from + ahead)
 }
 
-// The same from any place on, at or past the end too.
-fn feed_from(bytes: &[u8], from: usize) -> Option<usize>
-    ensures { EndsAt bytes.now from result }
+// The place of the first line feed; absent if there is none.
+fn first_feed(bytes: &[u8]) -> Option<usize>
+    ensures first { result ≡ position (λ b. b == 10) bytes.now }
+    ensures within { IfSome result (λ i. i < length bytes.now) }
 {
-    if from < bytes.len() {
-        line_end(bytes, from)
-    } else {
-        None
-    }
+    bytes.iter().position(|byte| *byte == b'\n')
 }
 
 impl Line<'_> {
@@ -54,21 +45,11 @@ impl Line<'_> {
     fn is_strange(self) -> bool
         ensures { MatchBool result (Strange (bytes_of self.entry)) (Strange (bytes_of self.entry) → ⊥) }
     {
-        strange_from(self.text, self.start)
+        let Some(bytes) = self.text.get(self.start..) else {
+            return false;
+        };
+        bytes.iter().any(|byte| Kind::of(*byte) == Kind::Other)
     }
-}
-
-// Whether a byte from a place on stands in no flow file.
-fn strange_from(text: &[u8], from: usize) -> bool
-    ensures { MatchBool result (Strange (drop from text.now)) (Strange (drop from text.now) → ⊥) }
-{
-    for i in from..text.len() {
-        match Kind::of(text[i]) {
-            Kind::Other => return true,
-            _ => {}
-        }
-    }
-    false
 }
 
 // The line that begins at a place of a file and has this number.
@@ -86,18 +67,14 @@ pub fn line_at<'a>(file: &'a [u8], start: usize, number: usize) -> Result<Line<'
 fn cut<'a>(file: &'a [u8], start: usize, number: usize) -> Line<'a>
     ensures { CutAt file.now start number result }
 {
-    match feed_from(file, start) {
-        Some(end) => Line {
-            text: &file[0..end],
-            start,
-            number,
-            ended: true,
-        },
-        None => Line {
-            text: file,
-            start,
-            number,
-            ended: false,
-        },
+    let (text, ended) = match line_end(file, start) {
+        Some(end) => (&file[..end], true),
+        None => (file, false),
+    };
+    Line {
+        text,
+        start,
+        number,
+        ended,
     }
 }

@@ -25,15 +25,13 @@ impl<'a> Line<'a> {
         ensures word { PlacedAt tight self.entry.text.now at self.entry.number result }
         ensures spelling { OneSpelling }
     {
-        match next_word(self.text, at, tight) {
-            None => None,
-            Some(next) => Some(Placed {
-                word: next.word,
-                place: at + gap_len(tight, next.word),
-                end: next.end,
-                line: self.number,
-            }),
-        }
+        let next = next_word(self.text, at, tight)?;
+        Some(Placed {
+            word: next.word,
+            place: at + gap_len(tight, next.word),
+            end: next.end,
+            line: self.number,
+        })
     }
 }
 
