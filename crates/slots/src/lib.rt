@@ -7,4 +7,4 @@ pub mod slot;
 
 pub use key::Key;
 pub use map::{clear, find, insert};
-pub use slot::{Inserted, Slot};
+pub use slot::{Entry, InsertError, Slot};

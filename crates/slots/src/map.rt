@@ -4,14 +4,14 @@ ghost use Rattle.slots.specs.Maps.{at, Valid, Cleared, Inserts};
 ghost use Rattle.slots.specs.Search.{Scans, Seeks};
 
 use super::key::Key;
-use super::slot::{Inserted, Slot, Sought};
+use super::slot::{Entry, InsertError, Place, Slot};
 
 // Makes every slot free, whatever the memory held.
 pub fn clear<K: Key + Drop>(slots: &mut [Slot<K>])
     ensures { Cleared K.same K.hash slots.old slots.new }
 {
-    for i in 0..slots.len() {
-        slots[i] = Slot::Free;
+    for slot in slots {
+        *slot = None;
     }
 }
 
@@ -20,59 +20,53 @@ pub fn find<K: Key>(slots: &[Slot<K>], key: &K) -> Option<u32>
     requires { Valid K.same K.hash slots.now }
     ensures { result ≡ at K.same slots.now key.now }
 {
-    match seek(slots, key) {
-        Sought::Found(value) => Some(value),
-        _ => None,
+    match seek(slots, key)? {
+        Place::Taken(value) => Some(value),
+        Place::Free(_) => None,
     }
 }
 
 // Inserts a key with its value if it is new and a slot is free; otherwise the slots stay as they are.
-pub fn insert<K: Key + Drop>(slots: &mut [Slot<K>], key: K, value: u32) -> Inserted
+pub fn insert<K: Key + Drop>(slots: &mut [Slot<K>], key: K, value: u32) -> Result<(), InsertError>
     requires { Valid K.same K.hash slots.old }
     ensures inserts { Inserts K.same slots.old slots.new key value result }
     ensures valid { Valid K.same K.hash slots.new }
 {
     match seek(slots, &key) {
-        Sought::Room(place) => {
-            slots[place] = Slot::Taken(key, value);
-            Inserted::New
+        Some(Place::Free(place)) => {
+            slots[place] = Some(Entry { key, value });
+            Ok(())
         }
-        Sought::Found(present) => Inserted::Present(present),
-        Sought::Full => Inserted::Full,
+        Some(Place::Taken(present)) => Err(InsertError::Present(present)),
+        None => Err(InsertError::Full),
     }
 }
 
-// The first slot from the key's home on, around the end, that is free or has the key. The home is the
-// hash modulo the number of slots.
-fn seek<K: Key>(slots: &[Slot<K>], key: &K) -> Sought
+// The first slot from the key's home on, around the end, that is free or has the key; absent if all are
+// taken by other keys. The home is the hash modulo the number of slots.
+fn seek<K: Key>(slots: &[Slot<K>], key: &K) -> Option<Place>
     requires { Valid K.same K.hash slots.now }
     ensures { Seeks K.same K.hash slots.now key.now result }
 {
     let n = slots.len();
     if n == 0 {
-        return Sought::Full;
+        return None;
     }
     let home = (key.hash() % n as u64) as usize;
-    match scan(slots, key, home, n) {
-        Sought::Full => scan(slots, key, 0, home),
-        first => first,
-    }
+    scan(slots, key, home, n).or_else(|| scan(slots, key, 0, home))
 }
 
-// The first slot from `from` to `to` that is free or has the key.
-fn scan<K: Key>(slots: &[Slot<K>], key: &K, from: usize, to: usize) -> Sought
+// The first slot from `from` to `to` that is free or has the key; absent if all are taken by other keys.
+fn scan<K: Key>(slots: &[Slot<K>], key: &K, from: usize, to: usize) -> Option<Place>
     requires { to ≤ length slots.now }
     ensures { Scans K.same slots.now key.now from to result }
 {
     for i in from..to {
         match &slots[i] {
-            Slot::Free => return Sought::Room(i),
-            Slot::Taken(other, value) => {
-                if other.same(key) {
-                    return Sought::Found(*value);
-                }
-            }
+            None => return Some(Place::Free(i)),
+            Some(entry) if entry.key.same(key) => return Some(Place::Taken(entry.value)),
+            Some(_) => {}
         }
     }
-    Sought::Full
+    None
 }
