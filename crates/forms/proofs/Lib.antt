@@ -1,2 +1,5 @@
-mod Parsing
-mod Steps
+mod Ending
+pub mod Parsing
+mod Saying
+pub mod Steps
+pub mod Wording

@@ -1,25 +1,30 @@
 -- One word of a line at a time.
-use Rattle.std.proofs.Common.{◌≡◌, ℕ, Bool, List, ◌∷◌, ◌++◌, drop, None, sym, refl, ap, ◌∙◌, arith}
-use Rattle.text.specs.Words.{Token, spelt, gap, Stands, is_open, spells}
+use Rattle.std.proofs.Common.{◌≡◌, ℕ, Bool, List, ◌∷◌, drop, None, sym, refl, ◌∙◌, subst, arith}
+use Rattle.text.specs.Words.{Token, Stands, is_open, Written}
 use Rattle.text.specs.Runs.{NextAt}
 use Rattle.text.proofs.Tokens.{cons_head, cons_tail}
-use Rattle.text.proofs.Spelling.{same_gapped, words_end}
-use Rattle.forms.specs.declared.expr.Head.{Head}
-use Rattle.forms.specs.declared.expr.Head.TheVariants.{Alt, All, Seq}
+use Rattle.text.proofs.Spelling.{same_gapped}
+use Rattle.algebra.specs.declared.expr.Head.{Head}
+use Rattle.algebra.specs.declared.expr.Head.TheVariants.{Alt, All, Seq}
 use Rattle.forms.specs.Forms.{head_text}
 use Rattle.forms.specs.Reads.{Left}
 
-module _ (bs : List ℕ) (a : ℕ) (tight : Bool) where
-  pub left_to : (e : ℕ) (t : Token) (ts : List Token) → Stands tight (drop a bs) t (drop e bs) → Left bs e (is_open t) ts → Left bs a tight (t ∷ ts)
-  left_to e t ts (token, is, ends) (all, rest) = ((token, all), is ∙ ap (λ z. gap tight t ++ (spelt t ++ z)) rest)
+module _ (bs : List ℕ) (a : ℕ) (tight : Bool) (o : List ℕ) where
+  pub left_to : (e : ℕ) (t : Token) (ts : List Token) → Stands tight (drop a bs) t (drop e bs) → Left bs e (is_open t) ts o → Left bs a tight (t ∷ ts) o
+  left_to e t ts stands l = (drop e bs, stands, l)
 
-  pub left_from : (e : ℕ) (t u : Token) (us : List Token) → Stands tight (drop a bs) t (drop e bs) → Left bs a tight (u ∷ us) → (u ≡ t) × Left bs e (is_open t) us
-  left_from e t u us (token, is, ends) ((good, all), whole) =
-      let p = same_gapped tight t u (drop e bs) (spells (is_open u) us) token good ends (words_end u us) (sym is ∙ whole) in
-      (sym p.0, (all, p.1 ∙ ap (λ z. spells (is_open z) us) (sym p.0)))
+  pub left_from : (e : ℕ) (t u : Token) (us : List Token) → Stands tight (drop a bs) t (drop e bs) → Left bs a tight (u ∷ us) o → (u ≡ t) × Left bs e (is_open t) us o
+  left_from e t u us (token, is, ends) (mid, (good, was, stops), l) =
+      let p = same_gapped tight t u (drop e bs) mid token good ends stops (sym is ∙ was) in
+      (sym p.0, subst (λ m. Written (is_open t) m us o) (sym p.1) (subst (λ z. Written (is_open z) mid us o) (sym p.0) l))
 
-  pub left_none : (u : Token) (us : List Token) → NextAt tight bs a None → Left bs a tight (u ∷ us) → ⊥
-  left_none u us none ((good, all), whole) = none u (spells (is_open u) us) (good, whole, words_end u us)
+  pub left_none : (u : Token) (us : List Token) → NextAt tight bs a None → Left bs a tight (u ∷ us) o → ⊥
+  left_none u us none (mid, stands, l) = none u mid stands
+
+-- one word stands at a place
+pub stands_only : (tight : Bool) (bs : List ℕ) (t u : Token) (r o : List ℕ) → Stands tight bs t r → Stands tight bs u o → (u ≡ t) × (r ≡ o)
+stands_only tight bs t u r o (token, is, ends) (good, was, stops) =
+    let p = same_gapped tight t u r o token good ends stops (sym is ∙ was) in (sym p.0, p.1)
 
 pub head_same : (k h : Head) → head_text k ≡ head_text h → k ≡ h
 head_same Alt Alt e = refl

@@ -1,14 +1,15 @@
 -- Expressions as they are written. Assumes nothing.
---     head_text h      the word of a head
---     Form, Chain      an expression as written, and the further members of a group, one at least
---     words f ts       the words of the form f, and then ts
---     chain c ts       the words of the members c and their closing bracket, and then ts
---     Fine f d         heads nest at most d deep in f, and each has 2 to 8 members; names are runs of bytes that stand in names
---     Fines c d n      the same of the members c, of which there are at most n
+--     head_text h   the word of a head
+--     Form, Chain   an expression as written, and the further members of a group, one at least
+--     words f ts    the words of the form f, and then ts
+--     chain c ts    the words of the members c and their closing bracket, and then ts
+--     Fine f d      heads nest at most d deep in f, and each has 2 to 8 members; names are runs of bytes that stand in names
+--     Fines c d n   the same of the members c, of which there are at most n
 use Rattle.std.specs.Prelude.{ℕ, ◌-◌, ◌<◌, List, ◌∷◌, codes}
-use Rattle.text.specs.Words.{Token, opens, closes, named, negated, Run}
-use Rattle.forms.specs.declared.expr.Head.{Head}
-use Rattle.forms.specs.declared.expr.Head.TheVariants.{Alt, All, Seq}
+use Rattle.text.specs.Names.{Run}
+use Rattle.text.specs.Words.{Token, opens, closes, named, negated}
+use Rattle.algebra.specs.declared.expr.Head.{Head}
+use Rattle.algebra.specs.declared.expr.Head.TheVariants.{Alt, All, Seq}
 
 abbrev pub head_text : Head → List ℕ
 head_text Alt = codes "alt"

@@ -1,83 +1,67 @@
 // Expressions as they are written.
 ghost use Rattle.std.specs.Prelude.{◌≡◌};
 ghost use Rattle.forms.specs.Forms.{head_text};
-ghost use Rattle.forms.specs.Reads.{HeadOf, HeadAt, CloseAt, ExprAt, GroupAt, MembersAt};
+ghost use Rattle.forms.specs.Reads.{NameIs, HeadAt, CloseAt, ExprAt, GroupAt, MembersAt};
 
-use text::{Word, next_word};
-
-// The words that begin a group of members.
-#[derive(Clone, Copy)]
-pub enum Head {
-    Alt,
-    All,
-    Seq,
-}
+use super::worded::{Worded, case_at};
+use algebra::Head;
+use text::{NameRun, Word, next_word};
 
 // Says that bytes are no form.
-#[derive(Clone, Copy)]
+#[derive(Clone, Copy, Debug, PartialEq, Eq)]
 pub struct NotForm;
 
-impl Head {
-    // The word that says the head.
-    pub fn text(self) -> &'static [u8]
-        ensures { result.now ≡ head_text self }
-    {
-        match self {
-            Head::Alt => b"alt",
-            Head::All => b"all",
-            Head::Seq => b"seq",
-        }
+// The word that says a head.
+pub fn head_text(head: Head) -> &'static [u8]
+    ensures { result.now ≡ head_text head }
+{
+    match head {
+        Head::Alt => b"alt",
+        Head::All => b"all",
+        Head::Seq => b"seq",
     }
 }
 
-// The head that a name says; absent if it says none.
-fn head_of(name: &[u8]) -> Option<Head>
-    ensures { HeadOf name.now result }
+impl Worded for Head {
+    ghost word_of = { head_text };
+
+    fn cases() -> &'static [Head] {
+        &[Head::Alt, Head::All, Head::Seq]
+    }
+
+    fn word(self) -> &'static [u8] {
+        head_text(self)
+    }
+}
+
+// The name that stands at a place, and where it ends; absent if none does.
+pub(crate) fn name_at<'a>(text: &'a [u8], at: usize, tight: bool) -> Option<(NameRun<'a>, usize)>
+    ensures { NameIs tight text.now at result }
 {
-    if name == Head::Alt.text() {
-        Some(Head::Alt)
-    } else if name == Head::All.text() {
-        Some(Head::All)
-    } else if name == Head::Seq.text() {
-        Some(Head::Seq)
-    } else {
-        None
+    let next = next_word(text, at, tight)?;
+    match next.word {
+        Word::Name(name) => Some((name, next.end)),
+        _ => None,
     }
 }
 
 // The head right behind an opening bracket, and where it ends; absent if there is none.
-fn head_at(text: &[u8], at: usize) -> Option<(Head, usize)>
+pub fn head_at(text: &[u8], at: usize) -> Option<(Head, usize)>
     ensures { HeadAt text.now at result }
 {
-    let next = match next_word(text, at, true) {
-        None => return None,
-        Some(next) => next,
-    };
-    match next.word {
-        Word::Name(name) => match head_of(name) {
-            None => None,
-            Some(head) => Some((head, next.end)),
-        },
-        _ => None,
-    }
+    case_at(text, at, true)
 }
 
 // Where the closing bracket ends that stands at a place; absent if none does.
-fn close_at(text: &[u8], at: usize) -> Option<usize>
+pub fn close_at(text: &[u8], at: usize) -> Option<usize>
     ensures { CloseAt text.now at result }
 {
-    let next = match next_word(text, at, false) {
-        None => return None,
-        Some(next) => next,
-    };
-    match next.word {
-        Word::Close => Some(next.end),
-        _ => None,
-    }
+    let next = next_word(text, at, false)?;
+    matches!(next.word, Word::Close).then_some(next.end)
 }
 
-// Where the expression ends that stands at a place of a line, its heads at most 8 deep. Behind an opening
-// bracket and at the line's start, which are tight, no space stands before it.
+// Where the expression ends that stands at a place of a text, its heads at most 8 deep. Behind an opening
+// bracket and at a line's start, which are tight, no space stands before it.
 pub fn expr_end(text: &[u8], at: usize, tight: bool) -> Result<usize, NotForm>
     ensures { ExprAt tight text.now at 8 result }
 {
@@ -85,23 +69,21 @@ pub fn expr_end(text: &[u8], at: usize, tight: bool) -> Result<usize, NotForm>
 }
 
 // The same with heads at most `depth` deep.
+#[tactic(auto, using(crate::proofs::Parsing::expr_none, crate::proofs::Parsing::expr_leaf, crate::proofs::Parsing::expr_shut, crate::proofs::Parsing::expr_group))]
 #[cycle(form_end_group_end_members_end)]
 fn form_end(text: &[u8], at: usize, tight: bool, depth: u8) -> Result<usize, NotForm>
     ensures { ExprAt tight text.now at depth result }
 {
-    let next = match next_word(text, at, tight) {
-        None => return Err(NotForm),
-        Some(next) => next,
-    };
+    let next = next_word(text, at, tight).ok_or(NotForm)?;
     match next.word {
-        Word::Name(_) => Ok(next.end),
-        Word::Never(_) => Ok(next.end),
+        Word::Name(_) | Word::Never(_) => Ok(next.end),
         Word::Close => Err(NotForm),
         Word::Open => group_end(text, next.end, depth),
     }
 }
 
 // Where the group ends whose opening bracket ends at a place: its head, and 2 to 8 members.
+#[tactic(auto, using(crate::proofs::Parsing::group_more, crate::proofs::Parsing::group_none, crate::proofs::Parsing::group_first_none))]
 #[cycle(form_end_group_end_members_end)]
 fn group_end(text: &[u8], at: usize, depth: u8) -> Result<usize, NotForm>
     ensures { GroupAt text.now at depth result }
@@ -109,16 +91,13 @@ fn group_end(text: &[u8], at: usize, depth: u8) -> Result<usize, NotForm>
     if depth == 0 {
         return Err(NotForm);
     }
-    match head_at(text, at) {
-        None => Err(NotForm),
-        Some((_, head_end)) => {
-            let first_end = form_end(text, head_end, false, depth - 1)?;
-            members_end(text, first_end, depth - 1, 7)
-        }
-    }
+    let (_, head_end) = head_at(text, at).ok_or(NotForm)?;
+    let first_end = form_end(text, head_end, false, depth - 1)?;
+    members_end(text, first_end, depth - 1, 7)
 }
 
 // Where the further members of a group end, at most `left`, with the closing bracket.
+#[tactic(auto, using(crate::proofs::Parsing::members_zero, crate::proofs::Parsing::members_more))]
 #[cycle(form_end_group_end_members_end)]
 fn members_end(text: &[u8], at: usize, depth: u8, left: u8) -> Result<usize, NotForm>
     ensures { MembersAt text.now at depth left result }
