@@ -7,18 +7,16 @@ use Rattle.std.specs.List.{slice_get, flat_map}
 use Rattle.std.specs.Str.{bytes_eq}
 use Rattle.std.proofs.lemmas.Slice.Eq.{bytes_eq-Decides}
 use Rattle.std.proofs.lemmas.List.{map-append, flat_map_more}
-use Rattle.slots.specs.declared.slot.Slot.{Slot}
-use Rattle.slots.specs.declared.slot.Slot.TheVariants.{Free, Taken}
-use Rattle.slots.specs.Maps.{Valid, taken}
-use Rattle.entries.specs.declared.line.Section.TheVariants.{Events, Rules}
-use Rattle.entries.specs.Forms.{Form}
-use Rattle.entries.specs.Items.{Declared, event, rule, FineItem, render, Comes}
-use Rattle.accept.specs.declared.key.NameKey.{NameKey}
-use Rattle.accept.specs.Keys.{same_name, name_hash}
+use Rattle.forms.specs.declared.line.Section.TheVariants.{Events, Rules}
+use Rattle.forms.specs.Forms.{Form}
+use Rattle.forms.specs.Items.{Declared, event, rule, FineItem, render, Comes}
+use Rattle.accept.specs.declared.names.EventNames.{EventNames}
+use Rattle.accept.specs.Naming.{entered}
 use Rattle.accept.specs.Drafts.{IsName, leaves, Names, Draft, names, leaf_count, event_line, rule_line, rendered, section_of, section, Declares, Apart, Keeps}
 use Rattle.accept.specs.Tallies.{known}
 use Rattle.accept.specs.Drafts.{Found}
 use Rattle.accept.specs.Steps.{Knows, grown}
+use Rattle.accept.proofs.Entries.{entered_few}
 
 joined_last : {X A : Type 0} (f : X → List A) (xs : List X) (x : X) → flat_map f (xs ++ (x ∷ [])) ≡ flat_map f xs ++ f x
 joined_last f xs x = sym (flat_map_more f [] xs x)
@@ -116,11 +114,6 @@ module _ (d : Draft) (k : Keeps d) where
         }
 
 -- names in the map
-taken_few : (s : List (Slot NameKey)) → taken s ≤ length s
-taken_few [] = omega arith
-taken_few (Free ∷ s) = let q = taken_few s in omega arith
-taken_few (Taken k v ∷ s) = let q = taken_few s in omega arith
-
 nth_more : (ns : List (List ℕ)) (m n : List ℕ) (e : ℕ) → slice_get ns e ≡ Some n → slice_get (ns ++ (m ∷ [])) e ≡ Some n
 nth_more [] m n e is = absurd (let z : ◌≡◌ {A = ℕ} 0 1 = cc in omega arith)
 nth_more (k ∷ ns) m n zero is = is
@@ -134,7 +127,7 @@ found_more : (ns : List (List ℕ)) (m n : List ℕ) (r : Option ℕ) → (n ≡
 found_more ns m n None ne out = λ k. ⊎_elim out ne (member_more ns m n k)
 found_more ns m n (Some e) ne is = nth_more ns m n e is
 
-module _ (s t : List (Slot NameKey)) (ns : List (List ℕ)) (m : List ℕ) (e : ℕ) (is : e ≡ length ns) (h : Knows s ns) where
+module _ (s t : EventNames) (ns : List (List ℕ)) (m : List ℕ) (e : ℕ) (is : e ≡ length ns) (h : Knows s ns) where
   found_with : (n : List ℕ) (b : Bool) → bytes_eq m n ≡ b → Found (ns ++ (m ∷ [])) n (cond b (Some e) (known s n))
   found_with n true same =
       let q = (bytes_eq-Decides m n).0 same in
@@ -142,17 +135,15 @@ module _ (s t : List (Slot NameKey)) (ns : List (List ℕ)) (m : List ℕ) (e : 
   found_with n false other =
       found_more ns m n (known s n) (λ q. false≢true (sym other ∙ (bytes_eq-Decides m n).1 (sym q))) (h.found n)
 
-  pub knows_more : Valid same_name name_hash t → taken t ≡ taken s + 1 → length t ≡ length s → ((n : List ℕ) → known t n ≡ cond (bytes_eq m n) (Some e) (known s n)) → Knows t (ns ++ (m ∷ []))
-  knows_more valid many long all =
+  pub knows_more : entered t ≡ entered s + 1 → ((n : List ℕ) → known t n ≡ cond (bytes_eq m n) (Some e) (known s n)) → Knows t (ns ++ (m ∷ []))
+  knows_more many all =
       record {
-        valid = valid;
-        twelve = long ∙ h.twelve;
         many = many ∙ ap (λ k. k + 1) h.many ∙ sym (length-append ns (m ∷ []));
         found = λ n. subst (Found (ns ++ (m ∷ [])) n) (sym (all n)) (found_with n (bytes_eq m n) refl);
       }
 
-  pub knows_room : taken t ≡ taken s + 1 → length t ≡ length s → length ns < 12
-  knows_room many long = let a = taken_few t in let b = h.many in let c = h.twelve in omega arith
+  pub knows_room : entered t ≡ entered s + 1 → length ns < 12
+  knows_room many = let a = entered_few t in let b = h.many in omega arith
 
 -- what the map says of a name
 pub found_none : (ns : List (List ℕ)) (n : List ℕ) (r : Option ℕ) → Found ns n r → r ≡ None → Memᴰ n ns → ⊥

@@ -1,7 +1,7 @@
 mod Entries
 pub mod Growing
 pub mod Once
-mod Same
+mod Reserving
 mod Stepping
 mod Surveying
 mod Tallying

@@ -9,12 +9,13 @@ use Rattle.std.proofs.lemmas.List.{length-append, map-append, nil_from_length}
 use Rattle.std.proofs.lemmas.Bool.{cases_order}
 use Rattle.text.specs.declared.kind.Kind.TheVariants.{Other}
 use Rattle.text.specs.Kinds.{kind_of}
-use Rattle.text.specs.Words.{in_name, name_byte, Token, opens, closes, named, negated, spelt, Run, IsToken, gap, is_open, spells, Tokens}
+use Rattle.text.specs.Names.{in_name, name_byte, Run}
+use Rattle.text.specs.Words.{Token, opens, closes, named, negated, spelt, IsToken, gap, is_open, spells, Tokens}
 use Rattle.text.proofs.Tokens.{cons_head, cons_tail, nil_not_cons}
 use Rattle.text.specs.Lines.{OneLine, FeedNext, ended, Strange}
-use Rattle.entries.specs.Forms.{Form}
-use Rattle.entries.specs.Items.{Declared, Item, event, rule, item_words, FineItem, render, Comes}
-use Rattle.entries.proofs.Wording.{item_tokens, one_item}
+use Rattle.forms.specs.Forms.{Form}
+use Rattle.forms.specs.Items.{Declared, Item, event, rule, item_words, FineItem, render, Comes}
+use Rattle.forms.proofs.Wording.{item_tokens, one_item}
 use Rattle.refusals.specs.declared.refusal.Fault.{Fault}
 use Rattle.refusals.specs.declared.refusal.Fault.TheVariants.{Byte, Shape, Name, Twice, Undeclared, TooMany}
 use Rattle.refusals.specs.declared.refusal.Refusal.TheVariants.{TooLong, Line}

@@ -1,42 +1,34 @@
 -- One line more of a flow file.
-use Rattle.std.proofs.Common.{◌≡◌, ℕ, ◌+◌, ◌-◌, ◌<◌, ◌≤◌, true, false, ◌⊎◌, List, [], ◌∷◌, ◌++◌, length, get_or, drop, IsErrAnd, Some, None, Ok, Err, Result, sym, refl, ap, ◌∙◌, subst, inl, inr, ⊎_elim, append_assoc, arith, length-append, length-drop}
+use Rattle.std.proofs.Common.{◌≡◌, ℕ, ◌+◌, ◌-◌, ◌<◌, ◌≤◌, true, ◌⊎◌, List, [], ◌∷◌, ◌++◌, length, get_or, drop, IsErrAnd, Some, None, Ok, Err, Result, MatchResult, sym, refl, ap, ◌∙◌, subst, inl, inr, ⊎_elim, append_assoc, arith, length-append, length-drop}
 use mathlib.Core.Bool.{false≢true}
 use lib.ListN.{length-map}
 use Rattle.std.proofs.lemmas.List.{drop_more}
-use Rattle.slots.specs.declared.slot.Slot.{Slot}
-use Rattle.slots.specs.Maps.{Valid}
 use Rattle.text.specs.declared.line.Line.{Line}
 use Rattle.text.specs.Files.{bytes_of, CutAt}
 use Rattle.text.specs.Lines.{FeedNext, ended, Strange}
-use Rattle.text.specs.Words.{closes}
-use Rattle.entries.specs.declared.line.Passage.{Passage}
-use Rattle.entries.specs.declared.line.Entry.{Entry}
-use Rattle.entries.specs.declared.line.Entry.TheVariants as entry
-use Rattle.entries.specs.declared.line.Read.{Read}
-use Rattle.entries.specs.declared.line.FormFault.{FormFault}
-use Rattle.entries.specs.declared.line.FormFault.TheVariants as form
-use Rattle.entries.specs.Forms.{Form, words}
-use Rattle.entries.specs.Items.{Declared, Item, event, rule, render, Shaped}
-use Rattle.entries.specs.Reads.{Left}
-use Rattle.entries.specs.Entries.{Says, EntryAt}
-use Rattle.entries.proofs.Wording.{one_item}
-use Rattle.accept.specs.declared.key.NameKey.{NameKey}
+use Rattle.forms.specs.declared.line.Entry.{Entry}
+use Rattle.forms.specs.declared.line.Entry.TheVariants as entry
+use Rattle.forms.specs.declared.line.Read.{Read}
+use Rattle.forms.specs.declared.line.FormFault.{FormFault}
+use Rattle.forms.specs.declared.line.FormFault.TheVariants as form
+use Rattle.forms.specs.Forms.{Form}
+use Rattle.forms.specs.Items.{Declared, Item, event, rule, render, Shaped}
+use Rattle.forms.specs.Entries.{Says, EntryAt}
+use Rattle.forms.proofs.Wording.{one_item}
+use Rattle.accept.specs.declared.names.EventNames.{EventNames}
 use Rattle.accept.specs.declared.counts.Progress.{Progress}
 use Rattle.refusals.specs.declared.refusal.Fault.{Fault}
 use Rattle.refusals.specs.declared.refusal.Fault.TheVariants.{Byte, Shape, Name, Twice, Undeclared, TooMany}
 use Rattle.refusals.specs.declared.refusal.Refusal.{Refusal}
+use Rattle.refusals.specs.declared.refusal.Refusal.TheVariants as refusal
 use Rattle.accept.specs.declared.counts.Step.{Step}
 use Rattle.refusals.specs.Refusals.{fault_number, refusal_of}
-use Rattle.accept.specs.Keys.{same_name, name_hash}
 use Rattle.accept.specs.Drafts.{IsName, leaves, Names, Draft, names, leaf_count, rendered, section, Declares}
 use Rattle.accept.specs.Outcomes.{Holds, Faulty, FirstFault}
 use Rattle.accept.specs.Tallies.{known, Judged}
 use Rattle.accept.specs.Naming.{Declaring}
-use Rattle.accept.specs.Steps.{Knows, Reached, grown, after_event, after_rule, Taking, GoesOn, Stepped}
+use Rattle.accept.specs.Steps.{Knows, Reached, grown, AfterEvent, AfterRule, Taking, GoesOn, Stepped}
 use Rattle.accept.proofs.Growing.{names_event, section_event_is, rendered_event, keeps_event, section_rule_is, leaves_rule, rendered_rule, keeps_rule, knows_more, knows_room, found_none, found_some}
-
-pub taking_rule : (s : List (Slot NameKey)) (p : Progress) (x : Entry) (y : Passage) (n k : ℕ) → x ≡ entry.Rule y → ((f : Form) → Left y.line.text.now y.at false (words f (closes ∷ [])) [] → Judged s f p.rules p.leaves (Ok k)) → Taking s p x s n (Ok (after_rule p n k))
-taking_rule s p x y n k is all = subst (λ z. Taking s p z s n (Ok (after_rule p n k))) (sym is) (refl, refl, all)
 
 ended_some : (t : List ℕ) → ended t ≡ true → 0 < length t
 ended_some [] e = absurd (false≢true e)
@@ -44,6 +36,12 @@ ended_some (b ∷ t) e = omega arith
 
 not_none : {e : ℕ} → Some e ≡ None → ⊥
 not_none q = let z : ◌≡◌ {A = ℕ} 0 1 = cc in omega arith
+
+ok_same : {x y : Progress} → ◌≡◌ {A = Result Progress Refusal} (Ok x) (Ok y) → x ≡ y
+ok_same e = cc
+
+err_same : {x y : Refusal} → ◌≡◌ {A = Result Progress Refusal} (Err x) (Err y) → x ≡ y
+err_same e = cc
 
 event_same : {x y : Declared} → event x ≡ event y → x ≡ y
 event_same e = cc
@@ -67,7 +65,7 @@ module _ (d : Draft) (line tail : List ℕ) where
   below k b s n t u m Undeclared = u
   below k b s n t u m TooMany = m
 
-module _ (bs : List ℕ) (d : Draft) (p : Progress) (s : List (Slot NameKey)) (h : Reached bs d p s) (on : GoesOn bs p) (l : Line) (cut : CutAt bs p.at p.line l) where
+module _ (bs : List ℕ) (d : Draft) (p : Progress) (s : EventNames) (h : Reached bs d p s) (on : GoesOn bs p) (l : Line) (cut : CutAt bs p.at p.line l) where
   abbrev tail : List ℕ
   tail = drop (length l.text.now) bs
 
@@ -148,7 +146,7 @@ module _ (bs : List ℕ) (d : Draft) (p : Progress) (s : List (Slot NameKey)) (h
           ∙ ap (λ z. z ++ drop (length l.text.now + 1) bs) (sym is)
 
     -- a line that declares an event
-    module _ (x : Declared) (given : Shaped p.section line l.ended (event x)) (t : List (Slot NameKey)) where
+    module _ (x : Declared) (given : Shaped p.section line l.ended (event x)) (t : EventNames) where
       at_event : Shaped (section d) line (ended tail) (event x)
       at_event = here (event x) given
 
@@ -167,28 +165,28 @@ module _ (bs : List ℕ) (d : Draft) (p : Progress) (s : List (Slot NameKey)) (h
       event_first Undeclared told = absurd told
       event_first TooMany (good, none, full) =
           first TooMany
-          (event x, at_event, (let a = h.names_are.many in let b = h.names_are.twelve in let c = length-map d.declared (λ y. y.name) in omega arith))
+          (event x, at_event, (let a = h.names_are.many in let c = length-map d.declared (λ y. y.name) in omega arith))
           (below d line tail TooMany (λ q. clean) (λ q. not_shape (event x) given) (λ q. name_here good)
           (λ q (y, shaped, old). found_none (names d) x.name (known s x.name) (h.names_are.found x.name) none (subst (λ z. Declares d z.name) (event_same (same (event x) given (event y) shaped)) old))
           (λ q (f, shaped, rest). rule_event (same (event x) given (rule f) shaped))
           (λ q. absurd (omega arith)))
 
-      pub event_reached : Valid same_name name_hash t → Declaring s x.name p.events t (Ok tt) → Reached bs (grown d (event x)) (after_event p (length l.text.now + 1)) t
-      event_reached valid (good, none, many, long, all) =
+      pub event_reached : (q : Progress) → AfterEvent p (length l.text.now + 1) q → Declaring s x.name p.events t (Ok tt) → Reached bs (grown d (event x)) q t
+      event_reached q after (good, none, many, all) =
           let new : Declares d x.name → ⊥ = found_none (names d) x.name (known s x.name) (h.names_are.found x.name) none in
           let counted : p.events ≡ length (names d) = h.events ∙ sym (length-map d.declared (λ y. y.name)) in
-          let room : length (names d) < 12 = knows_room s t (names d) x.name p.events counted h.names_are many long in
+          let room : length (names d) < 12 = knows_room s t (names d) x.name p.events counted h.names_are many in
           let longer = length-append d.declared (x ∷ []) in
           record {
             keeps = keeps_event d h.keeps x at_event.1 good new (let c = length-map d.declared (λ y. y.name) in omega arith);
-            text = grown_text (event x) given (grown d (event x)) (rendered_event d h.keeps x at_event.1);
-            within = let q = next_at (event x) given in omega arith;
-            line = let q = h.line in omega arith;
-            section_is = section_event_is d h.keeps x at_event.1;
-            events = let q = h.events in omega arith;
-            rules = h.rules;
-            leaves = h.leaves;
-            names_are = subst (Knows t) (sym (names_event d h.keeps x at_event.1)) (knows_more s t (names d) x.name p.events counted h.names_are valid many long all);
+            text = grown_text (event x) given (grown d (event x)) (rendered_event d h.keeps x at_event.1) ∙ ap (λ n. rendered (grown d (event x)) ++ drop n bs) (sym after.at);
+            within = let k = next_at (event x) given in let e = after.at in omega arith;
+            line = let k = h.line in let e = after.line in omega arith;
+            section_is = after.section_is ∙ section_event_is d h.keeps x at_event.1;
+            events = let k = h.events in let e = after.events in omega arith;
+            rules = after.rules ∙ h.rules;
+            leaves = after.leaves ∙ h.leaves;
+            names_are = subst (Knows t) (sym (names_event d h.keeps x at_event.1)) (knows_more s t (names d) x.name p.events counted h.names_are many all);
           }
 
     -- a line that states a rule
@@ -219,23 +217,23 @@ module _ (bs : List ℕ) (d : Draft) (p : Progress) (s : List (Slot NameKey)) (h
           (λ q (g, shaped, (n, m, none)). none (all_declared all n (subst (λ z. Names z n) (rule_same (same (rule f) given (rule g) shaped)) m)))
           (λ q. absurd (omega arith)))
 
-      pub rule_reached : (k : ℕ) → Judged s f p.rules p.leaves (Ok k) → Reached bs (grown d (rule f)) (after_rule p (length l.text.now + 1) k) s
-      rule_reached k (well, all, few, light, is) =
+      pub rule_reached : (q : Progress) → AfterRule p (length l.text.now + 1) q.leaves q → Judged s f p.rules p.leaves (Ok q.leaves) → Reached bs (grown d (rule f)) q s
+      rule_reached q after (well, all, few, light, is) =
           let longer = length-append d.rules (f ∷ []) in
-          let sum : k ≡ leaf_count d + length (leaves f) = is ∙ ap (λ n. n + length (leaves f)) h.leaves in
+          let sum : q.leaves ≡ leaf_count d + length (leaves f) = is ∙ ap (λ n. n + length (leaves f)) h.leaves in
           record {
-            keeps = keeps_rule d h.keeps f at_rule.1 at_rule.0 (all_declared all) (let q = h.rules in omega arith) (subst (λ n. n ≤ 64) sum light);
-            text = grown_text (rule f) given (grown d (rule f)) (rendered_rule d h.keeps f at_rule.1);
-            within = let q = next_at (rule f) given in omega arith;
-            line = let q = h.line in omega arith;
-            section_is = section_rule_is d h.keeps f at_rule.1;
-            events = h.events;
-            rules = let q = h.rules in omega arith;
+            keeps = keeps_rule d h.keeps f at_rule.1 at_rule.0 (all_declared all) (let k = h.rules in omega arith) (subst (λ n. n ≤ 64) sum light);
+            text = grown_text (rule f) given (grown d (rule f)) (rendered_rule d h.keeps f at_rule.1) ∙ ap (λ n. rendered (grown d (rule f)) ++ drop n bs) (sym after.at);
+            within = let k = next_at (rule f) given in let e = after.at in omega arith;
+            line = let k = h.line in let e = after.line in omega arith;
+            section_is = after.section_is ∙ section_rule_is d h.keeps f at_rule.1;
+            events = after.events ∙ h.events;
+            rules = let k = h.rules in let e = after.rules in omega arith;
             leaves = sum ∙ sym (leaves_rule d h.keeps f at_rule.1);
             names_are = h.names_are;
           }
 
-module _ (bs : List ℕ) (d : Draft) (p : Progress) (s : List (Slot NameKey)) (h : Reached bs d p s) (on : GoesOn bs p) where
+module _ (bs : List ℕ) (d : Draft) (p : Progress) (s : EventNames) (h : Reached bs d p s) (on : GoesOn bs p) where
   -- a fault that the form reader found
   form_fault : (f : FormFault) → EntryAt bs p.at p.line p.section (Err f) → Stepped bs d p.at s (Err (refusal_of f))
   form_fault (form.Bytes b) (n, (l, cut, strange)) = subst (λ k. FirstFault bs k Byte) (sym n) (byte_first bs d p s h on l cut strange)
@@ -245,7 +243,7 @@ module _ (bs : List ℕ) (d : Draft) (p : Progress) (s : List (Slot NameKey)) (h
   handed_on (Ok x) f e told = absurd e
   handed_on (Err y) f e told = subst (λ z. Stepped bs d p.at s (Err z)) (sym e) (form_fault f told)
 
-  module _ (l : Line) (cut : CutAt bs p.at p.line l) (clean : Strange (bytes_of l) → ⊥) (t : List (Slot NameKey)) where
+  module _ (l : Line) (cut : CutAt bs p.at p.line l) (clean : Strange (bytes_of l) → ⊥) (t : EventNames) where
     taken_fault : (z : Entry) (i : Item) (n : ℕ) (k : Fault) → Shaped p.section (bytes_of l) l.ended i → Says z i → Taking s p z t n (Err k) → FirstFault bs p.line k
     taken_fault (entry.Event y) (event x) n k given (name, told) took =
         event_first bs d p s h on l cut clean x given t k (subst (λ m. Declaring s m p.events t (Err k)) name took)
@@ -253,26 +251,43 @@ module _ (bs : List ℕ) (d : Draft) (p : Progress) (s : List (Slot NameKey)) (h
     taken_fault (entry.Rule y) (event x) n k given says took = absurd says
     taken_fault (entry.Rule y) (rule f) n k given says (same, took) = rule_first bs d p s h on l cut clean f given k (took f says)
 
-    taken_item : (z : Entry) (i : Item) (n : ℕ) (q : Progress) → Shaped p.section (bytes_of l) l.ended i → Says z i → n ≡ length l.text.now + 1 → Valid same_name name_hash t → Taking s p z t n (Ok q) → (p.at < q.at) × Reached bs (grown d i) q t
-    taken_item (entry.Event y) (event x) n q given (name, told) next valid (took, is) =
+    taken_item : (z : Entry) (i : Item) (n : ℕ) (q : Progress) → Shaped p.section (bytes_of l) l.ended i → Says z i → n ≡ length l.text.now + 1 → Taking s p z t n (Ok q) → (p.at < q.at) × Reached bs (grown d i) q t
+    taken_item (entry.Event y) (event x) n q given (name, told) next (took, after) =
         let here = next_at bs d p s h on l cut clean (event x) given in
-        let at : q ≡ after_event p (length l.text.now + 1) = is ∙ ap (after_event p) next in (
-          subst (λ z. p.at < z.at) (sym at) (omega arith),
-          subst (λ z. Reached bs (grown d (event x)) z t) (sym at) (event_reached bs d p s h on l cut clean x given t valid (subst (λ m. Declaring s m p.events t (Ok tt)) name took)),
+        let at = after.at in (
+          omega arith,
+          event_reached bs d p s h on l cut clean x given t q (subst (λ m. AfterEvent p m q) next after) (subst (λ m. Declaring s m p.events t (Ok tt)) name took),
         )
-    taken_item (entry.Event y) (rule f) n q given says next valid took = absurd says
-    taken_item (entry.Rule y) (event x) n q given says next valid took = absurd says
-    taken_item (entry.Rule y) (rule f) n q given says next valid (same, is, took) =
+    taken_item (entry.Event y) (rule f) n q given says next took = absurd says
+    taken_item (entry.Rule y) (event x) n q given says next took = absurd says
+    taken_item (entry.Rule y) (rule f) n q given says next (same, after, took) =
         let here = next_at bs d p s h on l cut clean (rule f) given in
-        let at : q ≡ after_rule p (length l.text.now + 1) q.leaves = is ∙ ap (λ m. after_rule p m q.leaves) next in (
-          subst (λ z. p.at < z.at) (sym at) (omega arith),
-          subst (Reached bs (grown d (rule f)) q) (sym same) (subst (λ z. Reached bs (grown d (rule f)) z s) (sym at) (rule_reached bs d p s h on l cut clean f given q.leaves (took f says))),
+        let at = after.at in (
+          omega arith,
+          subst (Reached bs (grown d (rule f)) q) (sym same) (rule_reached bs d p s h on l cut clean f given q (subst (λ m. AfterRule p m q.leaves q) next after) (took f says)),
         )
 
-  pub stepped_fault : (x : Read) (t : List (Slot NameKey)) (k : Fault) → EntryAt bs p.at p.line p.section (Ok x) → Taking s p x.entry t x.next (Err k) → FirstFault bs p.line k
+  pub stepped_fault : (x : Read) (t : EventNames) (k : Fault) → EntryAt bs p.at p.line p.section (Ok x) → Taking s p x.entry t x.next (Err k) → FirstFault bs p.line k
   stepped_fault x t k (l, cut, of, clean, (i, given, says), next) took = taken_fault l cut clean t x.entry i x.next k given says took
 
-  pub stepped_on : (x : Read) (t : List (Slot NameKey)) (q : Progress) → EntryAt bs p.at p.line p.section (Ok x) → Valid same_name name_hash t → Taking s p x.entry t x.next (Ok q) → Stepped bs d p.at t (Ok (record { entry = x.entry; progress = q }))
-  stepped_on x t q (l, cut, of, clean, (i, given, says), next) valid took =
-      let (forth, reached) = taken_item l cut clean t x.entry i x.next q given says next valid took in
+  pub stepped_on : (x : Read) (t : EventNames) (q : Progress) → EntryAt bs p.at p.line p.section (Ok x) → Taking s p x.entry t x.next (Ok q) → Stepped bs d p.at t (Ok (record { entry = x.entry; progress = q }))
+  stepped_on x t q (l, cut, of, clean, (i, given, says), next) took =
+      let (forth, reached) = taken_item l cut clean t x.entry i x.next q given says next took in
       (forth, (i, says, reached))
+
+  -- a fault that comes of taking the entry, told as a refusal
+  module _ (E : Fault → Refusal → Type 0) (told : (k : Fault) (z : Refusal) → E k z → z ≡ refusal.Line p.line k) (x : Read) (t : EventNames) (entry : EntryAt bs p.at p.line p.section (Ok x)) where
+    pub stepped_off : (r : Result Progress Fault) (m : Result Progress Refusal) (y : Refusal) (o : Result Step Refusal) → Taking s p x.entry t x.next r → MatchResult r (λ q. m ≡ Ok q) (λ k. IsErrAnd m (E k)) → m ≡ Err y → IsErrAnd o (λ z. z ≡ y) → Stepped bs d p.at t o
+    stepped_off (Ok q) m y o took cases is e = absurd (let z : ◌≡◌ {A = ℕ} 0 1 = cc in omega arith)
+    stepped_off (Err k) (Ok q) y o took cases is e = absurd cases
+    stepped_off (Err k) (Err z) y (Ok q) took cases is e = absurd e
+    stepped_off (Err k) (Err z) y (Err w) took cases is e =
+        let q : z ≡ y = err_same is in
+        let r = told k z cases in
+        let here : refusal.Line p.line k ≡ w = cc in
+        subst (λ v. Stepped bs d p.at t (Err v)) here (stepped_fault x t k entry took)
+
+    pub stepped_more : (r : Result Progress Fault) (m : Result Progress Refusal) (q : Progress) → Taking s p x.entry t x.next r → MatchResult r (λ q. m ≡ Ok q) (λ k. IsErrAnd m (E k)) → m ≡ Ok q → Stepped bs d p.at t (Ok (record { entry = x.entry; progress = q }))
+    stepped_more (Ok z) m q took cases is = stepped_on x t q entry (subst (λ v. Taking s p x.entry t x.next (Ok v)) (ok_same (sym cases ∙ is)) took)
+    stepped_more (Err k) (Ok z) q took cases is = absurd cases
+    stepped_more (Err k) (Err z) q took cases is = absurd (let y : ◌≡◌ {A = ℕ} 0 1 = cc in omega arith)

@@ -1,28 +1,24 @@
 -- The leaves of a rule, word by word.
-use Rattle.std.proofs.Common.{◌≡◌, ℕ, ◌<◌, ◌≤◌, Bool, false, List, [], ◌∷◌, ◌++◌, length, drop, None, sym, refl, ap, ◌∙◌, subst, append_assoc, append-nil, arith, length-drop}
+use Rattle.std.proofs.Common.{◌≡◌, ℕ, ◌<◌, ◌≤◌, Bool, false, List, [], ◌∷◌, ◌++◌, length, drop, None, sym, ap, ◌∙◌, subst, append_assoc, append-nil, arith, length-drop}
 use Rattle.std.proofs.lemmas.List.{drop_all}
-use Rattle.slots.specs.declared.slot.Slot.{Slot}
 use Rattle.text.specs.declared.placed.Placed.{Placed}
 use Rattle.text.specs.Words.{Token, closes, token_of, is_open, Written}
 use Rattle.text.specs.Places.{PlacedAt, WordAt}
 use Rattle.text.proofs.Spelling.{same_gapped, begins}
-use Rattle.entries.specs.Forms.{Form, words}
-use Rattle.entries.specs.Reads.{Left}
-use Rattle.accept.specs.declared.key.NameKey.{NameKey}
+use Rattle.forms.specs.Forms.{Form, words}
+use Rattle.forms.specs.Reads.{Left}
+use Rattle.accept.specs.declared.names.EventNames.{EventNames}
 use Rattle.accept.specs.declared.counts.Tally.{Tally}
 use Rattle.accept.specs.Drafts.{Leaf, leaves}
 use Rattle.accept.specs.Tallies.{leaf_of, leaves_in, Tallied}
 use Rattle.accept.proofs.Tallying.{leaves_words}
 
-module _ (bs : List ℕ) (start : ℕ) (s : List (Slot NameKey)) where
+module _ (bs : List ℕ) (start : ℕ) (s : EventNames) where
   -- if tokens stand there to the line's end, those that are left and the tally of those before make up the leaves of all
   abbrev pub Seen : ℕ → Bool → Tally → Type 0
   Seen at tight t =
       (ts : List Token) → Left bs start false ts []
       → (us : List Token) × Left bs at tight us [] × ((seen : List Leaf) × (leaves_in false ts ≡ seen ++ leaves_in tight us) × Tallied s seen t)
-
-  pub seen_none : (t : Tally) → Tallied s [] t → Seen start false t
-  seen_none t h ts l = (ts, l, ([], refl, h))
 
   module _ (at : ℕ) (tight : Bool) (t : Tally) (inv : Seen at tight t) where
     -- nothing is left

@@ -1,28 +1,16 @@
 -- Tallies of leaves.
-use Rattle.std.proofs.Common.{◌≡◌, ℕ, ◌+◌, ◌<◌, ◌≤◌, Bool, true, false, cond, not, ◌||◌, ◌⊎◌, List, [], ◌∷◌, ◌++◌, length, is_some, Some, None, Ok, Err, MatchBool, Option, sym, refl, ap, ◌∙◌, subst, inl, inr, ⊎_elim, append_assoc, append-nil, arith, length-append}
+use Rattle.std.proofs.Common.{◌≡◌, ℕ, ◌+◌, ◌<◌, ◌≤◌, Bool, true, false, not, ◌⊎◌, List, [], ◌∷◌, ◌++◌, length, None, Ok, MatchBool, sym, refl, ap, ◌∙◌, subst, inl, inr, ⊎_elim, append_assoc, append-nil, length-append, Err}
 use mathlib.Core.Bool.{false≢true}
 use mathlib.Core.List.Memᴰ
 use mathlib.Core.List.{Memᴰ}
-use Rattle.std.specs.Str.{bytes_eq}
-use Rattle.slots.specs.declared.slot.Slot.{Slot}
-use Rattle.slots.specs.declared.slot.Slot.TheVariants.{Free, Taken}
-use Rattle.slots.specs.Maps.{at}
 use Rattle.text.specs.Words.{Token, token_of, is_open}
 use Rattle.text.specs.Words as token
-use Rattle.entries.specs.Forms.{Form, plain, never, group, Chain, last, more, words, chain}
-use Rattle.accept.specs.declared.key.NameKey.{NameKey}
+use Rattle.forms.specs.Forms.{Form, plain, never, group, Chain, last, more, words, chain}
+use Rattle.accept.specs.declared.names.EventNames.{EventNames}
 use Rattle.accept.specs.declared.counts.Tally.{Tally}
-use Rattle.refusals.specs.declared.refusal.Fault.{Fault}
-use Rattle.refusals.specs.declared.refusal.Fault.TheVariants.{Byte, Shape, Name, Twice, Undeclared, TooMany}
-use Rattle.accept.specs.Keys.{same_name}
-use Rattle.accept.specs.Drafts.{IsName, Leaf, bare, negated, leaves, leaves_of, LeafName, Names}
-use Rattle.accept.specs.Tallies.{known, Constant, Mentions, leaves_in, Tallied, Naming, Lowest, WellNamed, AllKnown, Judged}
-
--- what the map answers depends on a key's bytes alone
-pub at_known : (s : List (Slot NameKey)) (q : NameKey) → at same_name s q ≡ known s q.bytes.now
-at_known [] q = refl
-at_known (Free ∷ s) q = at_known s q
-at_known (Taken k v ∷ s) q = ap (cond (bytes_eq k.bytes.now q.bytes.now) (Some v)) (at_known s q)
+use Rattle.refusals.specs.declared.refusal.Fault.TheVariants.{Undeclared, TooMany}
+use Rattle.accept.specs.Drafts.{IsName, Names, Leaf, bare, negated, leaves, leaves_of, LeafName}
+use Rattle.accept.specs.Tallies.{known, Constant, Mentions, leaves_in, Tallied, Naming, WellNamed, AllKnown, Judged}
 
 pub when_cases : {P Q : Type 0} (b : Bool) → MatchBool b P Q → ((b ≡ true) × P) ⊎ ((b ≡ false) × Q)
 when_cases true p = inl (refl, p)
@@ -34,30 +22,7 @@ when_join true (inr (e, q)) = absurd (false≢true (sym e))
 when_join false (inl (e, p)) = absurd (false≢true e)
 when_join false (inr (e, q)) = q
 
-or_false : (b : Bool) → (b || false) ≡ b
-or_false true = refl
-or_false false = refl
-
-or_true : (b : Bool) → (b || true) ≡ true
-or_true true = refl
-or_true false = refl
-
-some_known : (r : Option ℕ) → is_some r ≡ not true → r ≡ None
-some_known None e = refl
-some_known (Some x) e = absurd (false≢true (sym e))
-
-none_known : (r : Option ℕ) → is_some r ≡ not false → r ≡ None → ⊥
-none_known None e n = false≢true e
-none_known (Some x) e n = let z : ◌≡◌ {A = ℕ} 0 1 = cc in omega arith
-
-module _ (s : List (Slot NameKey)) (n : List ℕ) (t : Tally) (r : Option ℕ) (is : r ≡ known s n) where
-  pub named_tally : (b e : Bool) → MatchBool b (IsName n) (IsName n → ⊥) → is_some r ≡ not e → Naming s n t (record { leaves = t.leaves + 1; misnamed = t.misnamed || not b; undeclared = t.undeclared || e })
-  named_tally true true good e = record { leaves = refl; misnamed = inr (good, or_false t.misnamed); undeclared = inl (sym is ∙ some_known r e, or_true t.undeclared) }
-  named_tally true false good e = record { leaves = refl; misnamed = inr (good, or_false t.misnamed); undeclared = inr ((λ k. none_known r e (is ∙ k)), or_false t.undeclared) }
-  named_tally false true bad e = record { leaves = refl; misnamed = inl (bad, or_true t.misnamed); undeclared = inl (sym is ∙ some_known r e, or_true t.undeclared) }
-  named_tally false false bad e = record { leaves = refl; misnamed = inl (bad, or_true t.misnamed); undeclared = inr ((λ k. none_known r e (is ∙ k)), or_false t.undeclared) }
-
-module _ (s : List (Slot NameKey)) where
+module _ (s : EventNames) where
   -- one leaf more
   module _ (ls : List Leaf) (l : Leaf) where
     more_mentions : (n : List ℕ) → Mentions ls n → Mentions (ls ++ (l ∷ [])) n
@@ -72,10 +37,6 @@ module _ (s : List (Slot NameKey)) where
 
     longer : length (ls ++ (l ∷ [])) ≡ length ls + 1
     longer = length-append ls (l ∷ [])
-
-  -- no leaf yet
-  pub tallied_start : Tallied s [] (record { leaves = 0; misnamed = false; undeclared = false })
-  tallied_start = record { leaves = refl; misnamed = λ n (l, at, is). absurd (Memᴰ.not-nil at); undeclared = λ n (l, at, is) e. Memᴰ.not-nil at }
 
   -- a leaf that names no event
   pub tallied_none : (ls : List Leaf) (l : Leaf) (t u : Tally) → ((n : List ℕ) → LeafName l n → ⊥) → Tallied s ls t → u.leaves ≡ t.leaves + 1 → u.misnamed ≡ t.misnamed → u.undeclared ≡ t.undeclared → Tallied s (ls ++ (l ∷ [])) u
@@ -147,30 +108,22 @@ mutual
   leaves_chain (more f c) ts =
       leaves_words f (chain c ts) ∙ ap (λ z. leaves f ++ z) (leaves_chain c ts) ∙ sym (append_assoc (leaves f) (leaves_of c) (leaves_in false ts))
 
-module _ (s : List (Slot NameKey)) (f : Form) (t : Tally) (h : Tallied s (leaves f) t) where
-  misnamed_one : t.misnamed ≡ true → (n : List ℕ) × Names f n × (IsName n → ⊥)
-  misnamed_one e = ⊎_elim (λ p. p.1) (λ p. absurd (false≢true (sym p.0 ∙ e))) (when_cases t.misnamed h.misnamed)
-
+module _ (s : EventNames) (f : Form) (t : Tally) (h : Tallied s (leaves f) t) where
   well_named : t.misnamed ≡ false → WellNamed s f
   well_named e = ⊎_elim (λ p. absurd (false≢true (sym e ∙ p.0))) (λ p. p.1) (when_cases t.misnamed h.misnamed)
-
-  unknown_one : t.undeclared ≡ true → (n : List ℕ) × Names f n × (known s n ≡ None)
-  unknown_one e = ⊎_elim (λ p. p.1) (λ p. absurd (false≢true (sym p.0 ∙ e))) (when_cases t.undeclared h.undeclared)
 
   all_known : t.undeclared ≡ false → AllKnown s f
   all_known e = ⊎_elim (λ p. absurd (false≢true (sym e ∙ p.0))) (λ p. p.1) (when_cases t.undeclared h.undeclared)
 
-  module _ (rs ls : ℕ) (crowded : Bool) (much : MatchBool crowded ((16 ≤ rs) ⊎ (64 < ls + t.leaves)) ((rs < 16) × (ls + t.leaves ≤ 64))) where
-    abbrev Much : Bool → Type 0
-    Much b = MatchBool b ((16 ≤ rs) ⊎ (64 < ls + t.leaves)) ((rs < 16) × (ls + t.leaves ≤ 64))
+  unknown_one : t.undeclared ≡ true → (n : List ℕ) × Names f n × (known s n ≡ None)
+  unknown_one e = ⊎_elim (λ p. p.1) (λ p. absurd (false≢true (sym p.0 ∙ e))) (when_cases t.undeclared h.undeclared)
 
-    pub judged_fault : (k : Fault) → Lowest t crowded (Some k) → Judged s f rs ls (Err k)
-    judged_fault Byte low = low
-    judged_fault Shape low = low
-    judged_fault Name low = misnamed_one low
-    judged_fault Twice low = low
-    judged_fault Undeclared low = (well_named low.0, unknown_one low.1)
-    judged_fault TooMany low = (well_named low.0, all_known low.1, ⊎_elim (λ q. inl q) (λ q. inr (subst (λ n. 64 < ls + n) h.leaves q)) (subst Much low.2 much))
+  module _ (rs ls : ℕ) (named : t.misnamed ≡ false) where
+    pub judged_undeclared : t.undeclared ≡ true → Judged s f rs ls (Err Undeclared)
+    judged_undeclared unknown = (well_named named, unknown_one unknown)
 
-    pub judged_fine : Lowest t crowded None → Judged s f rs ls (Ok (ls + t.leaves))
-    judged_fine low = let q = subst Much low.2 much in (well_named low.0, all_known low.1, q.0, q.1, ap (λ n. ls + n) h.leaves)
+    pub judged_crowded : t.undeclared ≡ false → (16 ≤ rs) ⊎ (64 < ls + t.leaves) → Judged s f rs ls (Err TooMany)
+    judged_crowded all much = (well_named named, all_known all, ⊎_elim (λ q. inl q) (λ q. inr (subst (λ n. 64 < ls + n) h.leaves q)) much)
+
+    pub judged_fine : t.undeclared ≡ false → (rs < 16) × (ls + t.leaves ≤ 64) → Judged s f rs ls (Ok (ls + t.leaves))
+    judged_fine all fits = (well_named named, all_known all, fits.0, fits.1, ap (λ n. ls + n) h.leaves)

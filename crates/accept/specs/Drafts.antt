@@ -19,11 +19,11 @@ use mathlib.Core.List.{Memᴰ}
 use Rattle.std.specs.List.{slice_get, flat_map}
 use Rattle.text.specs.declared.kind.Kind.TheVariants.{Letter}
 use Rattle.text.specs.Kinds.{kind_of}
-use Rattle.text.specs.Words.{Run}
-use Rattle.entries.specs.declared.line.Section.{Section}
-use Rattle.entries.specs.declared.line.Section.TheVariants.{Start, Events, Rules}
-use Rattle.entries.specs.Forms.{Form, plain, never, group, Chain, last, more}
-use Rattle.entries.specs.Items.{Declared, event, rule, FineItem, render}
+use Rattle.text.specs.Names.{Run}
+use Rattle.forms.specs.declared.line.Section.{Section}
+use Rattle.forms.specs.declared.line.Section.TheVariants.{Start, Events, Rules}
+use Rattle.forms.specs.Forms.{Form, plain, never, group, Chain, last, more}
+use Rattle.forms.specs.Items.{Declared, event, rule, FineItem, render}
 
 abbrev pub reserved : List (List ℕ)
 reserved =

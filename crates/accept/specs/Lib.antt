@@ -1,8 +1,8 @@
 pub mod Checks
 pub mod Drafts
-pub mod Entries
 pub mod Keys
 pub mod Naming
+pub mod Numbers
 pub mod Outcomes
 pub mod Steps
 pub mod Tallies

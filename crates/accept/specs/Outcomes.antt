@@ -14,8 +14,8 @@
 --     OneOutcome               a file has one outcome at most
 use Rattle.std.specs.Prelude.{◌≡◌, ℕ, ◌+◌, ◌<◌, ◌≤◌, ◌⊎◌, List, [], ◌++◌, length}
 use Rattle.text.specs.Lines.{FirstLine, ended, Strange}
-use Rattle.entries.specs.Forms.{Form}
-use Rattle.entries.specs.Items.{Declared, Item, event, rule, Shaped}
+use Rattle.forms.specs.Forms.{Form}
+use Rattle.forms.specs.Items.{Declared, Item, event, rule, Shaped}
 use Rattle.refusals.specs.declared.refusal.Fault.{Fault}
 use Rattle.refusals.specs.declared.refusal.Fault.TheVariants.{Byte, Shape, Name, Twice, Undeclared, TooMany}
 use Rattle.refusals.specs.declared.refusal.Refusal.{Refusal}

@@ -1,37 +1,28 @@
 -- What the flow reader answers of the leaves of a rule. Assumes nothing.
---     known s n                     the number of the event with the name n, by the slots s; absent if there is none
---     Few s                         the slots s map names to the first twelve events alone
+--     known s n                     the number of the event with the name n among the names s; absent if there is none
 --     Constant n                    n is one of the words that name no event where they stand without `~`
 --     Mentions ls n                 one of the leaves ls names the event n
 --     leaf_of tight t               the leaf that the token t is, if it is one: a name right behind an opening bracket is a head
 --     leaves_in tight ts            the leaves among the tokens ts
 --     Tallied s ls t                the tally t is that of the leaves ls
 --     Naming s n t u                u is the tally t with one leaf more, which names the event n
---     Lowest t b r                  r is the fault of the lowest number by the tally t, where b says that there are too many rules or leaves
---     WellNamed s f, AllKnown s f   each name in the rule f is a name; each is that of an event, by the slots s
+--     WellNamed s f, AllKnown s f   each name in the rule f is a name; each is that of an event, among the names s
 --     Judged s f rules leaves r     r says how many leaves there are with those of the rule f, which follows so many rules and
 --                                   leaves, or the fault of the lowest number from 4 on that it has
-use Rattle.std.specs.Prelude.{◌≡◌, ℕ, ◌+◌, ◌<◌, ◌≤◌, Bool, true, false, cond, ◌⊎◌, List, [], ◌∷◌, ◌++◌, length, Some, None, Ok, Err, codes, MatchBool, Option, Result, ◌≢◌}
+use Rattle.std.specs.Prelude.{◌≡◌, ℕ, ◌+◌, ◌<◌, ◌≤◌, Bool, true, false, ◌⊎◌, List, [], ◌∷◌, ◌++◌, length, None, Ok, Err, codes, MatchBool, Option, Result, ◌≢◌}
 use mathlib.Core.List.{Memᴰ}
-use Rattle.std.specs.Str.{bytes_eq}
-use Rattle.slots.specs.declared.slot.Slot.{Slot}
-use Rattle.slots.specs.declared.slot.Slot.TheVariants.{Free, Taken}
 use Rattle.text.specs.Words.{Token, is_open}
 use Rattle.text.specs.Words as token
-use Rattle.entries.specs.Forms.{Form}
-use Rattle.accept.specs.declared.key.NameKey.{NameKey}
+use Rattle.forms.specs.Forms.{Form}
+use Rattle.accept.specs.declared.names.EventNames.{EventNames}
 use Rattle.accept.specs.declared.counts.Tally.{Tally}
 use Rattle.refusals.specs.declared.refusal.Fault.{Fault}
 use Rattle.refusals.specs.declared.refusal.Fault.TheVariants.{Byte, Shape, Name, Twice, Undeclared, TooMany}
+use Rattle.accept.specs.Numbers.{numbered}
 use Rattle.accept.specs.Drafts.{IsName, Leaf, bare, negated, leaves, LeafName, Names}
 
-abbrev pub known : List (Slot NameKey) → List ℕ → Option ℕ
-known [] n = None
-known (Free ∷ s) n = known s n
-known (Taken k v ∷ s) n = cond (bytes_eq k.bytes.now n) (Some v) (known s n)
-
-abbrev pub Few : List (Slot NameKey) → Type 0
-Few s = (n : List ℕ) (e : ℕ) → known s n ≡ Some e → e < 12
+abbrev pub known : EventNames → List ℕ → Option ℕ
+known s n = numbered s.slots n
 
 abbrev pub Constant : List ℕ → Type 0
 Constant n = (n ≡ codes "yes") ⊎ (n ≡ codes "no")
@@ -50,26 +41,17 @@ abbrev pub leaves_in : Bool → List Token → List Leaf
 leaves_in tight [] = []
 leaves_in tight (t ∷ ts) = leaf_of tight t ++ leaves_in (is_open t) ts
 
-pub record Tallied (s : List (Slot NameKey)) (ls : List Leaf) (t : Tally) : Type 0 where
+pub record Tallied (s : EventNames) (ls : List Leaf) (t : Tally) : Type 0 where
   pub leaves : t.leaves ≡ length ls
   pub misnamed : MatchBool t.misnamed ((n : List ℕ) × Mentions ls n × (IsName n → ⊥)) ((n : List ℕ) → Mentions ls n → IsName n)
   pub undeclared : MatchBool t.undeclared ((n : List ℕ) × Mentions ls n × (known s n ≡ None)) ((n : List ℕ) → Mentions ls n → known s n ≢ None)
 
-pub record Naming (s : List (Slot NameKey)) (n : List ℕ) (t u : Tally) : Type 0 where
+pub record Naming (s : EventNames) (n : List ℕ) (t u : Tally) : Type 0 where
   pub leaves : u.leaves ≡ t.leaves + 1
   pub misnamed : ((IsName n → ⊥) × (u.misnamed ≡ true)) ⊎ (IsName n × (u.misnamed ≡ t.misnamed))
   pub undeclared : ((known s n ≡ None) × (u.undeclared ≡ true)) ⊎ ((known s n ≢ None) × (u.undeclared ≡ t.undeclared))
 
-abbrev pub Lowest : Tally → Bool → Option Fault → Type 0
-Lowest t b None = (t.misnamed ≡ false) × (t.undeclared ≡ false) × (b ≡ false)
-Lowest t b (Some Byte) = ⊥
-Lowest t b (Some Shape) = ⊥
-Lowest t b (Some Name) = t.misnamed ≡ true
-Lowest t b (Some Twice) = ⊥
-Lowest t b (Some Undeclared) = (t.misnamed ≡ false) × (t.undeclared ≡ true)
-Lowest t b (Some TooMany) = (t.misnamed ≡ false) × (t.undeclared ≡ false) × (b ≡ true)
-
-module _ (s : List (Slot NameKey)) (f : Form) where
+module _ (s : EventNames) (f : Form) where
   abbrev pub WellNamed : Type 0
   WellNamed = (n : List ℕ) → Names f n → IsName n
 

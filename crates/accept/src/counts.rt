@@ -1,5 +1,7 @@
 // Counts that the flow reader keeps.
-use entries::{Entry, Section};
+ghost use Rattle.std.specs.Prelude.{◌≡◌, ◌+◌, ◌≤◌};
+
+use forms::{Entry, Section};
 
 // What the leaves of a rule come to, as far as they were looked at.
 #[derive(Clone, Copy)]
@@ -26,6 +28,11 @@ pub struct Progress {
     pub rules: u8,
     // How many leaves they have: at most 64.
     pub leaves: u8,
+    ghost few_events: { events ≤ 12 },
+    ghost few_rules: { rules ≤ 16 },
+    ghost few_leaves: { leaves ≤ 64 },
+    // One line for each event and each rule comes before.
+    ghost counted: { line ≡ events + rules + 1 },
 }
 
 // What a line says, and how far the file was read with it.

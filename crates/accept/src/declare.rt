@@ -1,63 +1,89 @@
 // Declaring events, and finding them by their names.
-ghost use Rattle.std.specs.Prelude.{◌≡◌, Some, None, ◌≢◌};
+ghost use Rattle.std.specs.Prelude.{◌≡◌, Some, None, ◌≢◌, []};
 ghost use Rattle.slots.specs.Maps.{Valid};
-ghost use Rattle.text.specs.Words.{Run};
 ghost use Rattle.accept.specs.Keys.{same_name, name_hash};
-ghost use Rattle.accept.specs.Tallies.{known, Few};
-ghost use Rattle.accept.specs.Naming.{Entering, Declaring};
+ghost use Rattle.accept.specs.Numbers.{numbered, Few};
+ghost use Rattle.accept.specs.Tallies.{known};
+ghost use Rattle.accept.specs.Naming.{entered, Entering, Declaring};
+ghost use Rattle.accept.specs.Steps.{Knows};
 
 use super::key::NameKey;
 use super::name::is_name;
+use super::names::EventNames;
 use refusals::Fault;
-use slots::{Inserted, Slot, find, insert};
-
-// The number of the event with a name, by the map; absent if the name was not entered.
-pub(crate) fn lookup<'a>(slots: &[Slot<NameKey<'a>>], name: &'a [u8]) -> Option<u32>
-    requires { Valid same_name name_hash slots.now }
-    ensures { result ≡ known slots.now name.now }
-{
-    find(slots, &NameKey { bytes: name })
-}
+use slots::{InsertError, Slot, find, insert};
+use text::NameRun;
 
 // The event of a name that the slots have: at most 11.
+#[tactic(auto, using(crate::proofs::Entries::at_numbered))]
 pub fn event_of<'a>(name: &'a [u8], slots: &[Slot<NameKey<'a>>]) -> u8
     requires valid { Valid same_name name_hash slots.now }
     requires few { Few slots.now }
-    requires name_known { known slots.now name.now ≢ None }
-    ensures { known slots.now name.now ≡ Some result }
+    requires name_known { numbered slots.now name.now ≢ None }
+    ensures { numbered slots.now name.now ≡ Some result }
 {
-    match lookup(slots, name) {
-        Some(event) => event as u8,
-        None => unreachable(),
-    }
+    find(slots, &NameKey { bytes: name }).unwrap() as u8
 }
 
-// Enters a name with the number of its event into the map.
-fn enter<'a>(slots: &mut [Slot<NameKey<'a>>], name: &'a [u8], number: u8) -> Inserted
-    requires { Valid same_name name_hash slots.old }
-    ensures entered { Entering slots.old name.now number slots.new result }
-    ensures valid { Valid same_name name_hash slots.new }
-{
-    insert(slots, NameKey { bytes: name }, u32::from(number))
-}
-
-// Declares the event of a number, or says the fault of the lowest number that its name has.
-pub(crate) fn declare<'a>(
-    slots: &mut [Slot<NameKey<'a>>],
-    name: &'a [u8],
-    number: u8,
-) -> Result<(), Fault>
-    requires valid_before { Valid same_name name_hash slots.old }
-    requires run { Run name.now }
-    ensures declared { Declaring slots.old name.now number slots.new result }
-    ensures valid { Valid same_name name_hash slots.new }
-{
-    if !is_name(name) {
-        return Err(Fault::Name);
+impl<'a> EventNames<'a> {
+    // No names.
+    #[tactic(auto, using(crate::proofs::Walking::no_numbers))]
+    pub fn new() -> EventNames<'a>
+        ensures { Knows result [] }
+    {
+        EventNames { slots: [None; 12] }
     }
-    match enter(slots, name, number) {
-        Inserted::New => Ok(()),
-        Inserted::Present(_) => Err(Fault::Twice),
-        Inserted::Full => Err(Fault::TooMany),
+
+    // The names that some slots have.
+    pub fn of(slots: [Slot<NameKey<'a>>; 12]) -> EventNames<'a>
+        requires valid { Valid same_name name_hash slots }
+        requires few { Few slots }
+        ensures { result.slots ≡ slots.entry }
+    {
+        EventNames { slots }
+    }
+
+    // The number of the event with a name, at most 11; absent if the name was not entered.
+    #[tactic(auto, using(crate::proofs::Entries::at_numbered))]
+    pub fn find(&self, name: &'a [u8]) -> Option<u8>
+        ensures { result ≡ known self.now name.now }
+    {
+        let number = find(&self.slots, &NameKey { bytes: name })?;
+        Some(number as u8)
+    }
+
+    // The event of a name that was entered: at most 11.
+    pub fn event_of(&self, name: &'a [u8]) -> u8
+        requires { known self.now name.now ≢ None }
+        ensures { known self.now name.now ≡ Some result }
+    {
+        event_of(name, &self.slots)
+    }
+
+    // Enters a name with the number of its event, which is how many names there were.
+    fn enter(&mut self, name: &'a [u8], number: u8) -> Result<(), InsertError>
+        requires { number ≡ entered self.old }
+        ensures { Entering self.old name.now number self.new result }
+    {
+        let mut slots = self.slots;
+        let inserted = insert(&mut slots, NameKey { bytes: name }, u32::from(number));
+        self.slots = slots;
+        inserted
+    }
+
+    // Declares the event of a number, which is how many names there were, or says the fault of the lowest
+    // number that its name has.
+    pub(crate) fn declare(&mut self, name: NameRun<'a>, number: u8) -> Result<(), Fault>
+        requires { number ≡ entered self.old }
+        ensures { Declaring self.old name.entry.bytes.now number self.new result }
+    {
+        if !is_name(name) {
+            return Err(Fault::Name);
+        }
+        match self.enter(name.bytes, number) {
+            Ok(()) => Ok(()),
+            Err(InsertError::Present(_)) => Err(Fault::Twice),
+            Err(InsertError::Full) => Err(Fault::TooMany),
+        }
     }
 }

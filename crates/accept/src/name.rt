@@ -1,10 +1,9 @@
-// Names of events, and the map from names to events.
-ghost use Rattle.std.specs.Prelude.{◌≡◌, map, MatchBool};
+// What is a name of an event.
+ghost use Rattle.std.specs.Prelude.{map, MatchBool};
 ghost use mathlib.Core.List.{Memᴰ};
-ghost use Rattle.text.specs.Words.{Run};
 ghost use Rattle.accept.specs.Drafts.{Reserved, IsName};
 
-use text::{Kind, is_word};
+use text::{Kind, NameRun};
 
 // The words that are no names.
 const RESERVED: [&[u8]; 11] = [
@@ -31,25 +30,16 @@ fn is_reserved(name: &[u8]) -> bool
 fn is_among(name: &[u8], words: &[&[u8]]) -> bool
     ensures { MatchBool result (Memᴰ name.now (map (λ x. x.now) words.now)) (Memᴰ name.now (map (λ x. x.now) words.now) → ⊥) }
 {
-    for word in words {
-        if is_word(name, word) {
-            return true;
-        }
-    }
-    false
+    words.contains(&name)
 }
 
 // Whether a run of letters, digits and hyphens is a name: at most 16 bytes, a letter first, and not
 // reserved.
-pub(crate) fn is_name(name: &[u8]) -> bool
-    requires { Run name.now }
-    ensures { MatchBool result (IsName name.now) (IsName name.now → ⊥) }
+pub(crate) fn is_name(name: NameRun) -> bool
+    ensures { MatchBool result (IsName name.entry.bytes.now) (IsName name.entry.bytes.now → ⊥) }
 {
-    if name.len() > 16 {
+    if name.bytes.len() > 16 {
         return false;
     }
-    match Kind::of(name[0]) {
-        Kind::Letter => !is_reserved(name),
-        _ => false,
-    }
+    Kind::of(name.bytes[0]) == Kind::Letter && !is_reserved(name.bytes)
 }

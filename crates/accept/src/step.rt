@@ -1,18 +1,13 @@
 // Reading a flow file line by line.
-ghost use Rattle.std.specs.Prelude.{◌≡◌, ◌≤◌, []};
-ghost use Rattle.slots.specs.Maps.{Valid};
-ghost use Rattle.accept.specs.Keys.{same_name, name_hash};
+ghost use Rattle.std.specs.Prelude.{◌≡◌};
 ghost use Rattle.accept.specs.Drafts.{Draft};
-ghost use Rattle.accept.specs.Entries.{RunIn};
+ghost use Rattle.accept.specs.Naming.{entered};
 ghost use Rattle.accept.specs.Steps.{Reached, Taking, GoesOn, Stepped};
 
 use super::counts::{Progress, Step};
-use super::declare::declare;
-use super::key::NameKey;
-use super::tally::judge;
-use entries::{Entry, Section, read_line};
+use super::names::EventNames;
+use forms::{Entry, Section, read_line};
 use refusals::{Fault, Refusal};
-use slots::Slot;
 
 impl Progress {
     // Before the first line.
@@ -34,41 +29,35 @@ impl Progress {
     fn take<'a>(
         self,
         entry: Entry<'a>,
-        slots: &mut [Slot<NameKey<'a>>],
+        names: &mut EventNames<'a>,
         next: usize,
     ) -> Result<Progress, Fault>
-        requires valid_before { Valid same_name name_hash slots.old }
-        requires run_in { RunIn entry }
-        requires few_leaves { self.leaves ≤ 64 }
-        requires few_events { self.events ≤ 12 }
-        requires few_rules { self.rules ≤ 16 }
-        requires few_lines { self.line ≤ 29 }
-        ensures taken { Taking slots.old self entry.entry slots.new next result }
-        ensures valid { Valid same_name name_hash slots.new }
+        requires { self.events ≡ entered names.old }
+        ensures { Taking names.old self entry.entry names.new next result }
     {
         match entry {
-            Entry::Event(declaration) => match declare(slots, declaration.name, self.events) {
-                Err(fault) => Err(fault),
-                Ok(()) => Ok(Progress {
+            Entry::Event(declaration) => {
+                names.declare(declaration.name, self.events)?;
+                Ok(Progress {
                     at: next,
                     line: self.line + 1,
                     section: Section::Events,
                     events: self.events + 1,
                     rules: self.rules,
                     leaves: self.leaves,
-                }),
-            },
-            Entry::Rule(rule) => match judge(rule, slots, self.rules, self.leaves) {
-                Err(fault) => Err(fault),
-                Ok(leaves) => Ok(Progress {
+                })
+            }
+            Entry::Rule(rule) => {
+                let leaves = self.judge(rule, names)?;
+                Ok(Progress {
                     at: next,
                     line: self.line + 1,
                     section: Section::Rules,
                     events: self.events,
                     rules: self.rules + 1,
                     leaves,
-                }),
-            },
+                })
+            }
         }
     }
 }
@@ -77,18 +66,17 @@ impl Progress {
 pub fn step_line<'a>(
     file: &'a [u8],
     from: Progress,
-    slots: &mut [Slot<NameKey<'a>>],
+    names: &mut EventNames<'a>,
 ) -> Result<Step<'a>, Refusal>
-    requires reached { (d : Draft) × Reached file.now d from slots.old }
+    requires reached { (d : Draft) × Reached file.now d from names.old }
     requires goes_on { GoesOn file.now from }
-    ensures { (d : Draft) → Reached file.now d from slots.old → Stepped file.now d from.at slots.new result }
+    ensures { (d : Draft) → Reached file.now d from names.old → Stepped file.now d from.at names.new result }
 {
     let read = read_line(file, from.at, from.line, from.section)?;
-    match from.take(read.entry, slots, read.next) {
-        Err(fault) => Err(Refusal::Line(from.line, fault)),
-        Ok(progress) => Ok(Step {
-            entry: read.entry,
-            progress,
-        }),
-    }
+    let taken = from.take(read.entry, names, read.next);
+    let progress = taken.map_err(|fault| Refusal::Line(from.line, fault))?;
+    Ok(Step {
+        entry: read.entry,
+        progress,
+    })
 }

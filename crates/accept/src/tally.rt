@@ -1,21 +1,17 @@
 // What the leaves of a rule come to.
-ghost use Rattle.std.specs.Prelude.{◌≡◌, ◌+◌, ◌^◌, ◌<◌, ◌≤◌, false, ◌⊎◌, List, [], ◌∷◌, ◌++◌, MatchBool};
-ghost use Rattle.slots.specs.Maps.{Valid};
-ghost use Rattle.text.specs.Words.{closes, token_of, is_open, Run, IsToken};
-ghost use Rattle.entries.specs.Forms.{Form, words};
-ghost use Rattle.entries.specs.Reads.{Left};
-ghost use Rattle.accept.specs.Keys.{same_name, name_hash};
+ghost use Rattle.std.specs.Prelude.{◌≡◌, ◌+◌, ◌^◌, ◌<◌, ◌≤◌, false, ◌⊎◌, List, [], ◌∷◌, ◌++◌, MatchBool, IfOk};
+ghost use Rattle.text.specs.Words.{closes, token_of, is_open};
+ghost use Rattle.forms.specs.Forms.{Form, words};
+ghost use Rattle.forms.specs.Reads.{Left};
 ghost use Rattle.accept.specs.Drafts.{Leaf as LeafOf, leaves as leaves_of};
-ghost use Rattle.accept.specs.Tallies.{Constant, leaf_of, Naming, Tallied, Lowest, Judged};
+ghost use Rattle.accept.specs.Tallies.{Constant, leaf_of, Naming, Tallied, Judged};
 
-use super::counts::Tally;
-use super::declare::lookup;
-use super::key::NameKey;
+use super::counts::{Progress, Tally};
 use super::name::is_name;
-use entries::Passage;
+use super::names::EventNames;
+use forms::Passage;
 use refusals::Fault;
-use slots::Slot;
-use text::{Word, is_word};
+use text::{NameRun, Word, is_word};
 
 // Whether a word is `yes` or `no`, which name no event.
 fn is_constant(name: &[u8]) -> bool
@@ -26,13 +22,11 @@ fn is_constant(name: &[u8]) -> bool
 
 impl Tally {
     // With one leaf more, which names an event.
-    fn naming<'a>(self, name: &'a [u8], slots: &[Slot<NameKey<'a>>]) -> Tally
-        requires valid { Valid same_name name_hash slots.now }
-        requires run { Run name.now }
-        requires few_leaves { self.leaves < 2 ^ 63 }
-        ensures { Naming slots.now name.now self result }
+    fn naming<'a>(self, name: NameRun<'a>, names: &EventNames<'a>) -> Tally
+        requires { self.leaves < 2 ^ 63 }
+        ensures { Naming names.now name.entry.bytes.now self result }
     {
-        let undeclared = lookup(slots, name).is_none();
+        let undeclared = names.find(name.bytes).is_none();
         let misnamed = !is_name(name);
         Tally {
             leaves: self.leaves + 1,
@@ -42,54 +36,27 @@ impl Tally {
     }
 
     // With a word of a rule: a name behind an opening bracket is a head, and `yes` and `no` name no event.
-    fn with<'a>(self, word: Word<'a>, tight: bool, slots: &[Slot<NameKey<'a>>]) -> Tally
-        requires valid { Valid same_name name_hash slots.now }
-        requires token { IsToken (token_of word) }
-        requires few_leaves { self.leaves < 2 ^ 63 }
-        ensures tally { (ls : List LeafOf) → Tallied slots.now ls self → Tallied slots.now (ls ++ leaf_of tight (token_of word.entry)) result }
+    fn with<'a>(self, word: Word<'a>, tight: bool, names: &EventNames<'a>) -> Tally
+        requires { self.leaves < 2 ^ 63 }
+        ensures tally { (ls : List LeafOf) → Tallied names.now ls self → Tallied names.now (ls ++ leaf_of tight (token_of word.entry)) result }
         ensures few { result.leaves ≤ self.leaves + 1 }
     {
         match word {
-            Word::Open => self,
-            Word::Close => self,
-            Word::Never(name) => self.naming(name, slots),
-            Word::Name(name) => {
-                if tight {
-                    self
-                } else if is_constant(name) {
-                    Tally {
-                        leaves: self.leaves + 1,
-                        misnamed: self.misnamed,
-                        undeclared: self.undeclared,
-                    }
-                } else {
-                    self.naming(name, slots)
-                }
-            }
-        }
-    }
-
-    // The fault of the lowest number of a rule with these leaves, where `crowded` says that there are too
-    // many rules or leaves with it; absent if it has none.
-    fn lowest(self, crowded: bool) -> Option<Fault>
-        ensures { Lowest self crowded result }
-    {
-        if self.misnamed {
-            Some(Fault::Name)
-        } else if self.undeclared {
-            Some(Fault::Undeclared)
-        } else if crowded {
-            Some(Fault::TooMany)
-        } else {
-            None
+            Word::Open | Word::Close => self,
+            Word::Never(name) => self.naming(name, names),
+            Word::Name(_) if tight => self,
+            Word::Name(name) if is_constant(name.bytes) => Tally {
+                leaves: self.leaves + 1,
+                ..self
+            },
+            Word::Name(name) => self.naming(name, names),
         }
     }
 }
 
 // What the leaves of a rule come to.
-fn survey<'a>(rule: Passage<'a>, slots: &[Slot<NameKey<'a>>]) -> Tally
-    requires { Valid same_name name_hash slots.now }
-    ensures { (f : Form) → Left rule.entry.line.text.now rule.entry.at false (words f (closes ∷ [])) [] → Tallied slots.now (leaves_of f) result }
+fn survey<'a>(rule: Passage<'a>, names: &EventNames<'a>) -> Tally
+    ensures { (f : Form) → Left rule.entry.line.text.now rule.entry.at false (words f (closes ∷ [])) [] → Tallied names.now (leaves_of f) result }
 {
     let line = rule.line;
     let mut at = rule.at;
@@ -100,43 +67,40 @@ fn survey<'a>(rule: Passage<'a>, slots: &[Slot<NameKey<'a>>]) -> Tally
         undeclared: false,
     };
     while at < line.text.len() {
-        match line.word_at(at, tight) {
-            None => return tally,
-            Some(next) => {
-                tally = tally.with(next.word, tight, slots);
-                tight = is_open(next.word);
-                at = next.end;
-            }
-        }
+        let Some(next) = line.word_at(at, tight) else {
+            return tally;
+        };
+        tally = tally.with(next.word, tight, names);
+        tight = is_open(next.word);
+        at = next.end;
     }
     tally
 }
 
-// Whether one rule more with so many leaves is too much behind so many rules and leaves.
-fn is_crowded(rules: u8, leaves: u8, more: usize) -> bool
-    requires { leaves ≤ 64 }
-    ensures { MatchBool result ((16 ≤ rules) ⊎ (64 < leaves + more)) ((rules < 16) × (leaves + more ≤ 64)) }
-{
-    rules >= 16 || more > usize::from(64 - leaves)
-}
+impl Progress {
+    // Whether one rule more with so many leaves is too much.
+    fn is_crowded(self, more: usize) -> bool
+        ensures { MatchBool result ((16 ≤ self.rules) ⊎ (64 < self.leaves + more)) ((self.rules < 16) × (self.leaves + more ≤ 64)) }
+    {
+        self.rules >= 16 || more > usize::from(64 - self.leaves)
+    }
 
-// The number of leaves with those of a rule, which follows so many rules and leaves; or the fault of
-// the lowest number that it has.
-pub(crate) fn judge<'a>(
-    rule: Passage<'a>,
-    slots: &[Slot<NameKey<'a>>],
-    rules: u8,
-    leaves: u8,
-) -> Result<u8, Fault>
-    requires valid { Valid same_name name_hash slots.now }
-    requires few_leaves { leaves ≤ 64 }
-    ensures { (f : Form) → Left rule.entry.line.text.now rule.entry.at false (words f (closes ∷ [])) [] → Judged slots.now f rules leaves result }
-{
-    let tally = survey(rule, slots);
-    let crowded = is_crowded(rules, leaves, tally.leaves);
-    match tally.lowest(crowded) {
-        Some(fault) => Err(fault),
-        None => Ok(leaves + tally.leaves as u8),
+    // The number of leaves with those of one rule more; or the fault of the lowest number that it has.
+    pub(crate) fn judge<'a>(self, rule: Passage<'a>, names: &EventNames<'a>) -> Result<u8, Fault>
+        ensures judged { (f : Form) → Left rule.entry.line.text.now rule.entry.at false (words f (closes ∷ [])) [] → Judged names.now f self.rules self.leaves result }
+        ensures few { IfOk result (λ k. (self.rules < 16) × (k ≤ 64)) }
+    {
+        let tally = survey(rule, names);
+        if tally.misnamed {
+            return Err(Fault::Name);
+        }
+        if tally.undeclared {
+            return Err(Fault::Undeclared);
+        }
+        if self.is_crowded(tally.leaves) {
+            return Err(Fault::TooMany);
+        }
+        Ok(self.leaves + tally.leaves as u8)
     }
 }
 
@@ -144,8 +108,5 @@ pub(crate) fn judge<'a>(
 fn is_open(word: Word) -> bool
     ensures { result ≡ is_open (token_of word.entry) }
 {
-    match word {
-        Word::Open => true,
-        _ => false,
-    }
+    matches!(word, Word::Open)
 }

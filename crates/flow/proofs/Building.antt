@@ -1,5 +1,5 @@
 -- Compiling expressions.
-use Rattle.std.proofs.Common.{◌≡◌, ℕ, ◌+◌, ◌-◌, ◌<◌, Bool, true, false, List, [], ◌∷◌, ◌++◌, length, drop, IfOk, Some, None, Ok, Err, Result, sym, refl, ap, ◌∙◌, subst, arith, length-append}
+use Rattle.std.proofs.Common.{◌≡◌, ℕ, ◌+◌, ◌-◌, ◌<◌, Bool, true, false, List, [], ◌∷◌, ◌++◌, length, drop, IfOk, IsSome, Some, None, Ok, Err, Option, Result, sym, refl, ap, ◌∙◌, subst, arith, length-append}
 use mathlib.Core.List.Memᴰ
 use mathlib.Core.List.{Memᴰ}
 use Rattle.std.specs.declared.alloc.AllocError.{AllocError}
@@ -13,15 +13,15 @@ use Rattle.algebra.specs.declared.expr.Expr.TheVariants as algebra-expr
 use Rattle.algebra.specs.Expressions as algebra
 use Rattle.algebra.specs.Rules.{Counts}
 use Rattle.algebra.proofs.Counts.{counts_join}
-use Rattle.slots.specs.declared.slot.Slot.{Slot}
 use Rattle.text.specs.Words.{Token, opens, closes, named, negated, Stands, Inner}
+use Rattle.text.specs.declared.placed.Placed.{Placed}
 use Rattle.text.specs.Places.{PlacedAt}
-use Rattle.entries.specs.Forms.{head_text, Form, plain, never, group, Chain, last, more, words, chain, Fine, Fines}
-use Rattle.entries.specs.Reads.{Left, Within, HeadAt, CloseAt}
-use Rattle.entries.proofs.Steps.{left_from, head_same}
+use Rattle.forms.specs.Forms.{head_text, Form, plain, never, group, Chain, last, more, words, chain, Fine, Fines}
+use Rattle.forms.specs.Reads.{Left, Within, HeadAt, CloseAt}
+use Rattle.forms.proofs.Steps.{left_from, head_same}
 use Rattle.text.proofs.Tokens.{named_same, apart}
-use Rattle.entries.proofs.Parsing.{chain_first, expr_none, plain_only, never_only, expr_close}
-use Rattle.accept.specs.declared.key.NameKey.{NameKey}
+use Rattle.forms.proofs.Parsing.{chain_first, expr_none, plain_only, never_only, expr_close}
+use Rattle.accept.specs.declared.names.EventNames.{EventNames}
 use Rattle.flow.specs.declared.built.Built.{Built}
 use Rattle.accept.specs.Drafts.{Leaf, bare, leaves, leaves_of}
 use Rattle.accept.specs.Drafts as drafts
@@ -29,7 +29,7 @@ use Rattle.accept.specs.Tallies.{known}
 use Rattle.flow.specs.Compiles.{Means, MeansAll}
 use Rattle.flow.specs.Builds.{Entered, Ready, AtomAt, AtomOf, LeafBuilt, FormAt, GroupAt, MembersAt, Numbered, FormBuilt, ChainBuilt, Pair, Paired}
 
-module _ (s : List (Slot NameKey)) where
+module _ (s : EventNames) where
   -- leaves that are ready, in two parts
   ready_left : (k : ℕ) (ls ms : List Leaf) → Ready s k (ls ++ ms) → Ready s k ls
   ready_left k ls ms (all, few) =
@@ -73,8 +73,12 @@ module _ (s : List (Slot NameKey)) where
     )
 
   module _ (bs : List ℕ) (a d k : ℕ) (tight : Bool) where
-    pub form_stuck : PlacedAt tight bs a 0 None → FormAt s bs a d k tight → ⊥
+    form_stuck : PlacedAt tight bs a 0 None → FormAt s bs a d k tight → ⊥
     form_stuck none at = expr_none bs a tight none at.form at.tokens at.onward at.left
+
+    pub form_there : (n : ℕ) (r : Option Placed) → PlacedAt tight bs a n r → FormAt s bs a d k tight → IsSome r
+    form_there n None none at = absurd (form_stuck none at)
+    form_there n (Some x) is at = refl
 
     module _ (e : ℕ) (in-line : Within bs a e) where
       pub form_closed : Stands tight (drop a bs) closes (drop e bs) → FormAt s bs a d k tight → ⊥

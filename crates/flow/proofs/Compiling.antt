@@ -14,23 +14,20 @@ use Rattle.algebra.specs.Expressions as algebra
 use Rattle.algebra.specs.Rules.{Counts, NumberedOn}
 use Rattle.algebra.proofs.Counts.{numbered_push}
 use Rattle.sheet.specs.declared.grade.Event.{Event}
-use Rattle.slots.specs.declared.slot.Slot.{Slot}
-use Rattle.slots.specs.Maps.{Valid}
 use Rattle.text.specs.Words.{Token, closes}
-use Rattle.entries.specs.declared.line.Declaration.{Declaration}
-use Rattle.entries.specs.declared.line.Passage.{Passage}
-use Rattle.entries.specs.declared.line.Entry.{Entry}
-use Rattle.entries.specs.declared.line.Entry.TheVariants as entry
-use Rattle.entries.specs.Forms.{Form, plain, never, group, Chain, last, more, words, Fine}
-use Rattle.entries.specs.Items.{Declared, Item, event, rule}
-use Rattle.entries.specs.Reads.{Left}
-use Rattle.entries.specs.Entries.{Says}
-use Rattle.accept.specs.declared.key.NameKey.{NameKey}
+use Rattle.forms.specs.declared.line.Declaration.{Declaration}
+use Rattle.forms.specs.declared.line.Passage.{Passage}
+use Rattle.forms.specs.declared.line.Entry.{Entry}
+use Rattle.forms.specs.declared.line.Entry.TheVariants as entry
+use Rattle.forms.specs.Forms.{Form, plain, never, group, Chain, last, more, words, Fine}
+use Rattle.forms.specs.Items.{Declared, Item, event, rule}
+use Rattle.forms.specs.Reads.{Left}
+use Rattle.forms.specs.Entries.{Says}
+use Rattle.accept.specs.declared.names.EventNames.{EventNames}
 use Rattle.flow.specs.declared.built.Built.{Built}
 use Rattle.flow.specs.declared.flow.Flow.{Flow}
-use Rattle.accept.specs.Keys.{same_name, name_hash}
 use Rattle.accept.specs.Drafts.{leaves, leaves_of, Names, Draft, names, leaf_count, Apart, Keeps}
-use Rattle.accept.specs.Tallies.{Few, known}
+use Rattle.accept.specs.Tallies.{known}
 use Rattle.flow.specs.Of.{names_of, rules_of}
 use Rattle.accept.specs.Drafts.{Found}
 use Rattle.accept.specs.Steps.{Knows, grown}
@@ -151,7 +148,7 @@ apart_last [] n a m = Memᴰ.not-nil m
 apart_last (k ∷ ns) n (not, a) m =
     ⊎_elim (λ e. not (subst (λ z. Memᴰ z (ns ++ (n ∷ []))) e (Memᴰ.append_right ns (Memᴰ.head refl)))) (apart_last ns n a) (Memᴰ.cases_cons m)
 
-entered_called : (s : List (Slot NameKey)) (ns : List (List ℕ)) → Knows s ns → (e : ℕ) (n : List ℕ) → Entered s e n → Called ns e n
+entered_called : (s : EventNames) (ns : List (List ℕ)) → Knows s ns → (e : ℕ) (n : List ℕ) → Entered s e n → Called ns e n
 entered_called s ns k e n is = subst (Found ns n) is (k.found n)
 
 -- a member of a list stands in a longer one
@@ -180,16 +177,9 @@ module _ (d : Draft) (f : Flow) (c : Compiled d f) where
             (each_weaker (Called (names d)) (Called (names (grown d (event x)))) (λ v m is. subst (λ z. Called z v m) (sym (names_grown x)) (called_more (names d) x.name v m is)) d.rules (rules_of f) c.rules_are);
       }
 
-  module _ (s : List (Slot NameKey)) (r : Form) (k : Keeps (grown d (rule r))) (knows : Knows s (names d)) (first : ℕ) (is : first ≡ length (flat_map algebra.leaves (rules_of f))) where
+  module _ (s : EventNames) (r : Form) (k : Keeps (grown d (rule r))) (knows : Knows s (names d)) (first : ℕ) (is : first ≡ length (flat_map algebra.leaves (rules_of f))) where
     first_leaf : first ≡ leaf_count d
     first_leaf = is ∙ each_leaves (Called (names d)) d.rules (rules_of f) c.rules_are
-
-    few_slots : Few s
-    few_slots n e at =
-        let q = nth_below (names d) e n (entered_called s (names d) knows e n at) in
-        let l = length-map d.declared (λ x. x.name) in
-        let m = k.few_events in
-        omega arith
 
     light : first + length (leaves r) ≤ 64
     light =
@@ -201,11 +191,9 @@ module _ (d : Draft) (f : Flow) (c : Compiled d f) where
     all_known : (n : List ℕ) → Names r n → known s n ≡ None → ⊥
     all_known n m none = found_none (names d) n (known s n) (knows.found n) none (k.known r (last_member d.rules r) n m)
 
-    rule_ready : (bs : List ℕ) (at : ℕ) → Left bs at false (words r (closes ∷ [])) [] → Few s × FormAt s bs at 8 first false
-    rule_ready bs at left = (
-      few_slots,
-      record { form = r; tokens = closes ∷ []; onward = []; fine = k.shaped r (last_member d.rules r); left = left; ready = (all_known, light) },
-    )
+    rule_ready : (bs : List ℕ) (at : ℕ) → Left bs at false (words r (closes ∷ [])) [] → FormAt s bs at 8 first false
+    rule_ready bs at left =
+        record { form = r; tokens = closes ∷ []; onward = []; fine = k.shaped r (last_member d.rules r); left = left; ready = (all_known, light) }
 
     module _ (bs : List ℕ) (at : ℕ) (left : Left bs at false (words r (closes ∷ [])) []) (b : Built) (built : (g : Form) (ts : List Token) (o : List ℕ) → Fine g 8 → Left bs at false (words g ts) o → FormBuilt s first bs g ts o (Ok b)) where
       here : FormBuilt s first bs r (closes ∷ []) [] (Ok b)
@@ -231,21 +219,21 @@ module _ (d : Draft) (f : Flow) (c : Compiled d f) where
           }
 
 -- the same of what a line says
-module _ (d : Draft) (s : List (Slot NameKey)) (f : Flow) where
-  pub may_declare : (i : Item) (z : Entry) (y : Declaration) → z ≡ entry.Event y → Gaining d i z s f → (length (vec_items f.events) < 12) × (Memᴰ y.name.now (names_of f) → ⊥)
-  may_declare (event x) z y is g = event_room d f g.compiled x y.name.now (subst (λ w. Says w (event x)) is g.says).0 g.keeps
+module _ (d : Draft) (s : EventNames) (f : Flow) where
+  pub may_declare : (i : Item) (z : Entry) (y : Declaration) → z ≡ entry.Event y → Gaining d i z s f → (length (vec_items f.events) < 12) × (Memᴰ y.name.bytes.now (names_of f) → ⊥)
+  may_declare (event x) z y is g = event_room d f g.compiled x y.name.bytes.now (subst (λ w. Says w (event x)) is g.says).0 g.keeps
   may_declare (rule r) z y is g = absurd (subst (λ w. Says w (rule r)) is g.says)
 
-  pub declared_now : (i : Item) (z : Entry) (y : Declaration) (h : Flow) → z ≡ entry.Event y → Gaining d i z s f → EventGained f y.name.now y.event h → Compiled (grown d i) h
+  pub declared_now : (i : Item) (z : Entry) (y : Declaration) (h : Flow) → z ≡ entry.Event y → Gaining d i z s f → EventGained f y.name.bytes.now y.event h → Compiled (grown d i) h
   declared_now (event x) z y h is g e =
-      let says = subst (λ w. Says w (event x)) is g.says in event_compiled d f g.compiled x y.name.now y.event h says.0 says.1 e
+      let says = subst (λ w. Says w (event x)) is g.says in event_compiled d f g.compiled x y.name.bytes.now y.event h says.0 says.1 e
   declared_now (rule r) z y h is g e = absurd (subst (λ w. Says w (rule r)) is g.says)
 
   module _ (first : ℕ) (count : first ≡ length (flat_map algebra.leaves (rules_of f))) where
-    pub may_compile : (i : Item) (z : Entry) (y : Passage) → z ≡ entry.Rule y → Gaining d i z s f → Valid same_name name_hash s × (Few s × FormAt s y.line.text.now y.at 8 first false)
+    pub may_compile : (i : Item) (z : Entry) (y : Passage) → z ≡ entry.Rule y → Gaining d i z s f → FormAt s y.line.text.now y.at 8 first false
     may_compile (event x) z y is g = absurd (subst (λ w. Says w (event x)) is g.says)
     may_compile (rule r) z y is g =
-        (g.knows.valid, rule_ready d f g.compiled s r g.keeps g.knows first count y.line.text.now y.at (subst (λ w. Says w (rule r)) is g.says))
+        rule_ready d f g.compiled s r g.keeps g.knows first count y.line.text.now y.at (subst (λ w. Says w (rule r)) is g.says)
 
     module _ (y : Passage) (b : Built) (built : (g : Form) (ts : List Token) (o : List ℕ) → Fine g 8 → Left y.line.text.now y.at false (words g ts) o → FormBuilt s first y.line.text.now g ts o (Ok b)) where
       pub may_state : (i : Item) (z : Entry) → z ≡ entry.Rule y → Gaining d i z s f → (length (rules_of f) < 16) × NumberedOn (rules_of f ++ (b.expr ∷ [])) × ((e : ℕ) → Memᴰ e (algebra.events_in b.expr) → e < length (vec_items f.events))

@@ -1,7 +1,6 @@
 -- A flow that is filled from an accepted file.
-use Rattle.std.proofs.Common.{◌≡◌, ℕ, ◌≤◌, List, [], length, Ok, Err, sym, ap, subst, arith}
-use Rattle.slots.specs.declared.slot.Slot.{Slot}
-use Rattle.accept.specs.declared.key.NameKey.{NameKey}
+use Rattle.std.proofs.Common.{◌≡◌, ℕ, ◌≤◌, List, [], length, IsOk, Ok, Err, Result, sym, refl, ap, subst, arith}
+use Rattle.accept.specs.declared.names.EventNames.{EventNames}
 use Rattle.accept.specs.declared.counts.Step.{Step}
 use Rattle.flow.specs.declared.flow.Flow.{Flow}
 use Rattle.refusals.specs.declared.refusal.Refusal.{Refusal}
@@ -21,11 +20,15 @@ not_both e = let z : ◌≡◌ {A = ℕ} 0 1 = cc in omega arith
 
 module _ (bs : List ℕ) where
   -- a file that is accepted has no fault
-  pub no_fault : (g : Draft) → ComesTo bs (accepted g) → (d : Draft) (a : ℕ) (s : List (Slot NameKey)) (r : Refusal) → Stepped bs d a s (Err r) → ⊥
+  no_fault : (g : Draft) → ComesTo bs (accepted g) → (d : Draft) (a : ℕ) (s : EventNames) (r : Refusal) → Stepped bs d a s (Err r) → ⊥
   no_fault g good d a s TooLong told = told
   no_fault g good d a s (Line n k) told = not_both (one_outcome bs (accepted g) (refused (Line n k)) good (good.0, told))
 
-  module _ (d : Draft) (a : ℕ) (s : List (Slot NameKey)) (x : Step) where
+  pub step_taken : (g : Draft) → ComesTo bs (accepted g) → (d : Draft) (a : ℕ) (s : EventNames) (r : Result Step Refusal) → Stepped bs d a s r → IsOk r
+  step_taken g good d a s (Ok x) told = refl
+  step_taken g good d a s (Err y) told = absurd (no_fault g good d a s y told)
+
+  module _ (d : Draft) (a : ℕ) (s : EventNames) (x : Step) where
     pub gains : (f : Flow) (told : Stepped bs d a s (Ok x)) → Compiled d f → Gaining d told.1.0 x.entry s f
     gains f (forth, (i, says, h)) c = record { says = says; keeps = h.keeps; knows = h.names_are; compiled = c }
 

@@ -1,19 +1,33 @@
--- What stands at a place of a list of names or of what is told.
-use Rattle.std.proofs.Common.{◌≡◌, ℕ, ◌<◌, ◌≤◌, List, map, length, get_or, Some, None, Option, sym, ap, ◌∙◌, arith, Bor, MatchOption}
-use Rattle.std.specs.List.{slice_get, HoldsAt}
-use Rattle.std.specs.Option.{option_map}
-use Rattle.std.proofs.lemmas.List.{length-map, get_or-map}
-use Rattle.std.proofs.lemmas.Option.{slice_get-get_or, slice_get_past}
+-- The place of a name among the names of events.
+use Rattle.std.proofs.Common.{◌≡◌, ℕ, suc, ◌+◌, Bool, true, false, cond, List, [], ◌∷◌, Some, None, Option, sym, refl, ap, ◌∙◌, subst, ⊎_elim, arith, MatchOption}
+use mathlib.Core.Bool.{false≢true}
+use mathlib.Core.List.Memᴰ
+use mathlib.Core.List.{Memᴰ}
+use Rattle.std.specs.List.{slice_get, position, position_from}
+use Rattle.std.specs.Str.{bytes_eq}
+use Rattle.std.proofs.lemmas.Slice.Eq.{bytes_eq-Decides}
+use Rattle.std.proofs.lemmas.Iterator.Adapters.{position_from-zero}
+use Rattle.accept.specs.Drafts.{Found}
+use Rattle.flow.specs.declared.event.NamedEvent.{NamedEvent}
+use Rattle.flow.specs.Events.{name_of, names_in}
 
-module _ {X Y : Type 0} (f : X → Y) (xs : List X) (i : ℕ) where
-  pub nth_map : (x : X) → i < length xs → x ≡ get_or xs i x → slice_get (map f xs) i ≡ Some (f x)
-  nth_map x h e =
-      slice_get-get_or (map f xs) i (f x) (let l = length-map xs f in omega arith) ∙ ap Some (get_or-map f xs i x (f x) h ∙ ap f (sym e))
+-- the place of a name among the events', counted from some number on
+module _ (n : List ℕ) where
+  abbrev Told : ℕ → List NamedEvent → Option ℕ → Type 0
+  Told i es r = MatchOption r (Memᴰ n (names_in es) → ⊥) (λ k. (j : ℕ) × (k ≡ i + j) × (slice_get (names_in es) j ≡ Some n))
 
-  pub nth_map_past : length xs ≤ i → slice_get (map f xs) i ≡ None
-  nth_map_past h = slice_get_past (map f xs) i (let l = length-map xs f in omega arith)
+  first : (i : ℕ) (x : NamedEvent) (es : List NamedEvent) (b : Bool) → bytes_eq (name_of x) n ≡ b → (r : Option ℕ) → Told (i + 1) es r → Told i (x ∷ es) (cond b (Some i) r)
+  first i x es true e r t = (0, omega arith, ap Some ((bytes_eq-Decides (name_of x) n).0 e))
+  first i x es false e None out = λ m. ⊎_elim (λ q. false≢true (sym e ∙ (bytes_eq-Decides (name_of x) n).1 (sym q))) out (Memᴰ.cases_cons m)
+  first i x es false e (Some k) (j, is, at) = (suc j, omega arith, at)
 
--- what a slice's `get` found
-pub read_at : {X Y : Type 0} (f : X → Y) (xs ys : List X) (i j : ℕ) → xs ≡ ys → i ≡ j → (r : Option (Bor X)) → MatchOption r (length xs ≤ i) (λ x. (i < length xs) × HoldsAt (λ y. x.now ≡ y) xs i) → option_map (λ x. f x.now) r ≡ slice_get (map f ys) j
-read_at f xs ys i j same is None h = sym (nth_map_past f xs i h) ∙ ap (λ l. slice_get (map f l) i) same ∙ ap (slice_get (map f ys)) is
-read_at f xs ys i j same is (Some x) (lt, at) = sym (nth_map f xs i x.now lt (at x.now)) ∙ ap (λ l. slice_get (map f l) i) same ∙ ap (slice_get (map f ys)) is
+  told : (i : ℕ) (es : List NamedEvent) → Told i es (position_from (λ x. bytes_eq (name_of x) n) i es)
+  told i [] = λ m. Memᴰ.not-nil m
+  told i (x ∷ es) = first i x es (bytes_eq (name_of x) n) refl (position_from (λ y. bytes_eq (name_of y) n) (i + 1) es) (told (i + 1) es)
+
+  counted : (es : List NamedEvent) (r : Option ℕ) → Told 0 es r → Found (names_in es) n r
+  counted es None out = out
+  counted es (Some k) (j, is, at) = let same : j ≡ k = omega arith in subst (λ i. slice_get (names_in es) i ≡ Some n) same at
+
+  pub found_at : (es : List NamedEvent) → Found (names_in es) n (position (λ x. bytes_eq (name_of x) n) es)
+  found_at es = subst (Found (names_in es) n) (sym (position_from-zero (λ x. bytes_eq (name_of x) n) es)) (counted es (position_from (λ x. bytes_eq (name_of x) n) 0 es) (told 0 es))

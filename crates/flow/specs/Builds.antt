@@ -1,6 +1,6 @@
 -- What compiling an expression answers. Assumes nothing.
---     Entered s e n                  the slots s map the name n to the event e
---     Ready s k ls                   the names of the leaves ls are in the slots s, and they can be numbered from k on
+--     Entered s e n                  the event e has the name n among the names s
+--     Ready s k ls                   the names of the leaves ls are among the names s, and they can be numbered from k on
 --     AtomAt s n                     the word n can be compiled as a leaf
 --     AtomOf s n a                   the atom a is what the leaf n says, without `~`
 --     LeafBuilt a k e b              b is the leaf of the number k that says a, and its text ends at e
@@ -22,27 +22,26 @@ use Rattle.algebra.specs.declared.expr.Head.{Head}
 use Rattle.algebra.specs.declared.expr.Expr.{Expr}
 use Rattle.algebra.specs.Expressions as algebra
 use Rattle.algebra.specs.Rules.{Counts}
-use Rattle.slots.specs.declared.slot.Slot.{Slot}
 use Rattle.text.specs.Words.{Token, named}
-use Rattle.entries.specs.Forms.{head_text, Form, group, Chain, words, chain, Fine, Fines}
-use Rattle.entries.specs.Reads.{Left}
-use Rattle.accept.specs.declared.key.NameKey.{NameKey}
+use Rattle.forms.specs.Forms.{head_text, Form, group, Chain, words, chain, Fine, Fines}
+use Rattle.forms.specs.Reads.{Left}
+use Rattle.accept.specs.declared.names.EventNames.{EventNames}
 use Rattle.flow.specs.declared.built.Built.{Built}
 use Rattle.accept.specs.Drafts.{Leaf, leaves, leaves_of}
 use Rattle.accept.specs.Tallies.{known, Mentions}
 use Rattle.flow.specs.Compiles.{Means, MeansAll}
 
-abbrev pub Entered : List (Slot NameKey) → ℕ → List ℕ → Type 0
+abbrev pub Entered : EventNames → ℕ → List ℕ → Type 0
 Entered s e n = known s n ≡ Some e
 
-abbrev pub Ready : List (Slot NameKey) → ℕ → List Leaf → Type 0
+abbrev pub Ready : EventNames → ℕ → List Leaf → Type 0
 Ready s k ls = ((n : List ℕ) → Mentions ls n → known s n ≢ None) × (k + length ls ≤ 64)
 
--- the words yes and no are no names, and every other word is in the slots
-abbrev pub AtomAt : List (Slot NameKey) → List ℕ → Type 0
+-- the words yes and no are no names, and every other word is among the names
+abbrev pub AtomAt : EventNames → List ℕ → Type 0
 AtomAt s n = (n ≢ codes "yes") → (n ≢ codes "no") → known s n ≢ None
 
-abbrev pub AtomOf : List (Slot NameKey) → List ℕ → Atom → Type 0
+abbrev pub AtomOf : EventNames → List ℕ → Atom → Type 0
 AtomOf s n (Lit (Happened e)) = Entered s e n
 AtomOf s n (Lit (Never e)) = ⊥
 AtomOf s n Yes = n ≡ codes "yes"
@@ -51,7 +50,7 @@ AtomOf s n No = n ≡ codes "no"
 abbrev pub LeafBuilt : Atom → ℕ → ℕ → Built → Type 0
 LeafBuilt a k e b = (b.end ≡ e) × (b.next ≡ k + 1) × ((i : LeafNumber) × (i.value ≡ k) × (b.expr ≡ algebra-expr.Leaf a i))
 
-module _ (s : List (Slot NameKey)) (bs : List ℕ) (a d k : ℕ) where
+module _ (s : EventNames) (bs : List ℕ) (a d k : ℕ) where
   pub record FormAt (tight : Bool) : Type 0 where
     pub form : Form
     pub tokens : List Token
@@ -82,7 +81,7 @@ pub record Numbered (k : ℕ) (x : Expr) (n : ℕ) : Type 0 where
   pub counts : Counts k (algebra.leaves x)
   pub many : length (algebra.leaves x) ≡ n
 
-module _ (s : List (Slot NameKey)) (k : ℕ) (bs : List ℕ) where
+module _ (s : EventNames) (k : ℕ) (bs : List ℕ) where
   abbrev pub FormBuilt : Form → List Token → List ℕ → Result Built AllocError → Type 0
   FormBuilt f ts o (Ok b) =
       Left bs b.end false ts o × Means (Entered s) f b.expr × Numbered k b.expr (length (leaves f)) × (b.next ≡ k + length (leaves f))

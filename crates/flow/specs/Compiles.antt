@@ -13,7 +13,7 @@ use Rattle.algebra.specs.declared.expr.Atom.TheVariants.{Lit, Yes, No}
 use Rattle.algebra.specs.declared.expr.Head.{Head}
 use Rattle.algebra.specs.declared.expr.Expr.{Expr}
 use Rattle.algebra.specs.declared.expr.Expr.TheVariants.{Leaf, Binary'}
-use Rattle.entries.specs.Forms.{Form, plain, never, group, Chain, last, more}
+use Rattle.forms.specs.Forms.{Form, plain, never, group, Chain, last, more}
 use Rattle.flow.specs.declared.flow.Flow.{Flow}
 use Rattle.refusals.specs.declared.refusal.ReadError.{ReadError}
 use Rattle.refusals.specs.declared.refusal.ReadError.TheVariants.{Refused, Memory}

@@ -3,6 +3,7 @@
 --     names_of f    the names of its events, in their order
 --     rules_of f    its rules, in their order
 --     IsEmpty f     it has neither events nor rules
+--     few_told      a flow tells no more events than a sheet does, which its type says
 use Rattle.std.specs.Prelude.{◌≡◌, ℕ, ◌≤◌, List, [], vec_items}
 use Rattle.std.proofs.Common.{sym, subst}
 use Rattle.std.proofs.lemmas.List.{length-map}

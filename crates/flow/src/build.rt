@@ -1,9 +1,9 @@
 // Building the flow of a file that was accepted.
-ghost use Rattle.std.specs.Prelude.{◌≡◌, ℕ, ◌<◌, [], ◌∷◌, ◌++◌, length, IfOk, OnOk};
+ghost use Rattle.std.specs.Prelude.{◌≡◌, ℕ, ◌<◌, [], ◌∷◌, ◌++◌, length, OnOk};
 ghost use mathlib.Core.List.{Memᴰ};
 ghost use Rattle.algebra.specs.Expressions.{events_in};
 ghost use Rattle.algebra.specs.Rules.{NumberedOn};
-ghost use Rattle.entries.specs.Items.{Item};
+ghost use Rattle.forms.specs.Items.{Item};
 ghost use Rattle.accept.specs.Drafts.{Draft};
 ghost use Rattle.accept.specs.Steps.{grown};
 ghost use Rattle.flow.specs.Compiles.{Compiled};
@@ -13,27 +13,19 @@ ghost use Rattle.flow.specs.Gains.{EventGained, RuleGained, Gaining};
 use super::compile::Source;
 use super::event::NamedEvent;
 use super::flow::Flow;
-use accept::NameKey;
+use accept::EventNames;
 use algebra::{Expr, RulesError};
-use entries::{Declaration, Entry};
-use slots::Slot;
+use forms::{Declaration, Entry};
 use std::alloc::{AllocError, Global};
-
-// A copy of a name.
-fn copied(heap: Global, name: &[u8]) -> Result<Vec<u8>, AllocError>
-    ensures { IfOk result (λ v. v.items ≡ name.now) }
-{
-    name.to_vec(heap)
-}
 
 impl Flow {
     // Adds an event behind the others.
     fn add_event(&mut self, heap: Global, declaration: Declaration) -> Result<(), AllocError>
         requires few { length self.old.events.items < 12 }
-        requires undeclared { Memᴰ declaration.name.now (names_of self.old) → ⊥ }
-        ensures { OnOk result (EventGained self.old declaration.entry.name.now declaration.entry.event self.new) }
+        requires undeclared { Memᴰ declaration.name.bytes.now (names_of self.old) → ⊥ }
+        ensures { OnOk result (EventGained self.old declaration.entry.name.bytes.now declaration.entry.event self.new) }
     {
-        let name = copied(heap, declaration.name)?;
+        let name = declaration.name.bytes.to_vec(heap)?;
         self.events.push(NamedEvent {
             name,
             event: declaration.event,
@@ -50,10 +42,8 @@ impl Flow {
     {
         match self.rules.push(rule) {
             Ok(()) => Ok(()),
-            Err(error) => match error {
-                RulesError::Memory(_) => Err(AllocError),
-                RulesError::Misnumbered(_) => unreachable(),
-            },
+            Err(RulesError::Memory(_)) => Err(AllocError),
+            Err(RulesError::Misnumbered(_)) => unreachable(),
         }
     }
 
@@ -62,10 +52,10 @@ impl Flow {
         &mut self,
         heap: Global,
         entry: Entry<'a>,
-        slots: &[Slot<NameKey<'a>>],
+        names: &EventNames<'a>,
     ) -> Result<(), AllocError>
-        requires { (d : Draft) × (i : Item) × Gaining d i entry slots.now self.old }
-        ensures { (d : Draft) (i : Item) → Gaining d i entry.entry slots.now self.old → OnOk result (Compiled (grown d i) self.new) }
+        requires { (d : Draft) × (i : Item) × Gaining d i entry names.now self.old }
+        ensures { (d : Draft) (i : Item) → Gaining d i entry.entry names.now self.old → OnOk result (Compiled (grown d i) self.new) }
     {
         match entry {
             Entry::Event(declaration) => self.add_event(heap, declaration),
@@ -73,7 +63,7 @@ impl Flow {
                 let first = self.rules.leaf_count();
                 let source = Source {
                     line: rule.line,
-                    slots,
+                    names,
                 };
                 let built = source.form(heap, rule.at, false, 8, first)?;
                 self.add_rule(built.expr)

@@ -1,7 +1,8 @@
 // What a flow tells.
-ghost use Rattle.std.specs.Prelude.{◌≡◌, ◌<◌, length, IfSome};
+ghost use Rattle.std.specs.Prelude.{◌≡◌, length, position};
 ghost use Rattle.std.specs.List.{slice_get};
 ghost use Rattle.std.specs.Option.{option_map};
+ghost use Rattle.std.specs.Str.{bytes_eq};
 ghost use Rattle.algebra.specs.Of.{rules_of as rules_in};
 ghost use Rattle.flow.specs.Events.{name_of};
 ghost use Rattle.flow.specs.Of.{events_of, names_of, rules_of, IsEmpty, few_told};
@@ -12,7 +13,6 @@ use super::flow::Flow;
 use algebra::Rules;
 use sheet::{Event, Sheet};
 use std::alloc::Global;
-use text::is_word;
 
 impl Flow {
     // The empty flow.
@@ -35,20 +35,16 @@ impl Flow {
     pub fn name(&self, event: u8) -> Option<&[u8]>
         ensures { option_map (λ x. x.now) result ≡ slice_get (names_of self.now) event }
     {
-        match self.named(event) {
-            None => None,
-            Some(named) => Some(named.name.as_slice()),
-        }
+        let named = self.named(event)?;
+        Some(named.name.as_slice())
     }
 
     // The number of the event with a name, at most 11; absent if there is none.
     pub fn find(&self, name: &[u8]) -> Option<u8>
         ensures { Found (names_of self.now) name.now result }
     {
-        match self.place(name) {
-            None => None,
-            Some(number) => Some(number as u8),
-        }
+        let number = self.place(name)?;
+        Some(number as u8)
     }
 
     // The event of a number; absent past the last.
@@ -59,16 +55,13 @@ impl Flow {
         self.events.get(usize::from(number))
     }
 
-    // The place of a name among the names; absent if it is not among them.
+    // The place of the first event with a name; absent if there is none.
     fn place(&self, name: &[u8]) -> Option<usize>
-        ensures { Found (names_of self.now) name.now result × IfSome result (λ i. i < 12) }
+        ensures { result ≡ position (λ e. bytes_eq (name_of e) name.now) self.now.events.items }
     {
-        for (number, named) in self.events.iter().enumerate() {
-            if is_word(named.name.as_slice(), name) {
-                return Some(number);
-            }
-        }
-        None
+        self.events
+            .iter()
+            .position(|named| named.name.as_slice() == name)
     }
 
     fn len(&self) -> u8
@@ -88,9 +81,7 @@ impl Sheet for Flow {
     }
 
     fn event(&self, number: u8) -> Option<Event> {
-        match self.named(number) {
-            None => None,
-            Some(named) => Some(named.event),
-        }
+        let named = self.named(number)?;
+        Some(named.event)
     }
 }

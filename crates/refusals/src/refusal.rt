@@ -1,11 +1,14 @@
 // Why a flow file is refused.
-ghost use Rattle.std.specs.Prelude.{◌≡◌};
-ghost use Rattle.refusals.specs.Refusals.{fault_number, fault_reader, number_of, line_of, reader_of, reader_text, refusal_of};
+ghost use Rattle.std.specs.Prelude.{◌≡◌, Some};
+ghost use Rattle.refusals.specs.Refusals.{fault_number, fault_reader, number_of, line_of, reader_of, reader_text, reason_of, refusal_of};
+ghost use Rattle.refusals.specs.declared.refusal.ReadError.TheVariants.{Refused, Memory};
 
-use entries::FormFault;
+use forms::FormFault;
+use std::alloc::AllocError;
+use std::fmt;
 
 // The readers of a flow file, each over the one before it.
-#[derive(Clone, Copy)]
+#[derive(Clone, Copy, PartialEq, Eq)]
 pub enum Reader {
     Bytes,
     Forms,
@@ -13,7 +16,7 @@ pub enum Reader {
 }
 
 // What is wrong with a line.
-#[derive(Clone, Copy)]
+#[derive(Clone, Copy, PartialEq, Eq)]
 pub enum Fault {
     // A byte stands in no flow file.
     Byte,
@@ -30,7 +33,7 @@ pub enum Fault {
 }
 
 // Why a file is refused.
-#[derive(Clone, Copy)]
+#[derive(Clone, Copy, PartialEq, Eq)]
 pub enum Refusal {
     // It is longer than 16,384 bytes.
     TooLong,
@@ -51,7 +54,7 @@ impl From<FormFault> for Refusal {
 }
 
 // How much a flow file declares and states.
-#[derive(Clone, Copy)]
+#[derive(Clone, Copy, PartialEq, Eq)]
 pub struct Summary {
     // At most 12.
     pub events: u8,
@@ -62,11 +65,27 @@ pub struct Summary {
 }
 
 // Why a file is not read into a flow.
-#[derive(Clone, Copy)]
+#[derive(Clone, Copy, PartialEq, Eq)]
 pub enum ReadError {
     Refused(Refusal),
     // The file is a flow's, and there is no memory for it.
     Memory,
+}
+
+impl From<Refusal> for ReadError {
+    ghost from_gives = { λ r e. e ≡ Refused r };
+
+    fn from(refusal: Refusal) -> ReadError {
+        ReadError::Refused(refusal)
+    }
+}
+
+impl From<AllocError> for ReadError {
+    ghost from_gives = { λ _ e. e ≡ Memory };
+
+    fn from(_error: AllocError) -> ReadError {
+        ReadError::Memory
+    }
 }
 
 impl Reader {
@@ -79,6 +98,15 @@ impl Reader {
             Reader::Forms => "forms",
             Reader::Flow => "flow",
         }
+    }
+}
+
+// A reader is shown as its word.
+impl fmt::Display for Reader {
+    ghost output = { λ r. Some (reader_text r) };
+
+    fn fmt<W: fmt::Write>(&self, f: &mut fmt::Formatter<W>) -> fmt::Result {
+        f.write_str(self.text())
     }
 }
 
@@ -106,6 +134,29 @@ impl Fault {
             Fault::Shape => Reader::Forms,
             Fault::Name | Fault::Twice | Fault::Undeclared | Fault::TooMany => Reader::Flow,
         }
+    }
+
+    // The fault in words.
+    fn reason(self) -> &'static str
+        ensures { result.now ≡ reason_of self }
+    {
+        match self {
+            Fault::Byte => "it has a byte that stands in no flow file",
+            Fault::Shape => "it has not the form of an event or a rule that may come there",
+            Fault::Name => "a name in it is too long, badly begun or reserved",
+            Fault::Twice => "it declares an event that was declared before",
+            Fault::Undeclared => "a name in it is not declared above",
+            Fault::TooMany => "it is event 13 or rule 17, or has leaf 65",
+        }
+    }
+}
+
+// A fault is shown in words.
+impl fmt::Display for Fault {
+    ghost output = { λ k. Some (reason_of k) };
+
+    fn fmt<W: fmt::Write>(&self, f: &mut fmt::Formatter<W>) -> fmt::Result {
+        f.write_str(self.reason())
     }
 }
 

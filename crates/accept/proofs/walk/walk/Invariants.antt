@@ -4,7 +4,7 @@ use Rattle.accept.specs.Steps.{Reached, GoesOn}
 use Rattle.accept.proofs.walk.walk.Given as goal
 
 abbrev pub invariant-lines : goal.invariant-lines
-invariant-lines l = ((d : Draft) × Reached l.file d l.progress l.slots) × GoesOn l.file l.progress
+invariant-lines l = ((d : Draft) × Reached l.file d l.progress l.names) × GoesOn l.file l.progress
 
 abbrev pub decreases-lines : goal.decreases-lines
 decreases-lines l = length l.file + 1 - l.progress.at

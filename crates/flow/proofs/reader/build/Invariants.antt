@@ -2,10 +2,10 @@ use Rattle.std.proofs.Common.{◌+◌, ◌-◌, length}
 use Rattle.accept.specs.Drafts.{Draft}
 use Rattle.accept.specs.Steps.{Reached, GoesOn}
 use Rattle.flow.specs.Compiles.{Compiled}
-use Rattle.flow.proofs.reader.fill.Given as goal
+use Rattle.flow.proofs.reader.build.Given as goal
 
 abbrev pub invariant-lines : goal.invariant-lines
-invariant-lines l = ((d : Draft) × Reached l.file d l.progress l.slots × Compiled d l.flow) × GoesOn l.file l.progress
+invariant-lines l = ((d : Draft) × Reached l.file d l.progress l.names × Compiled d l.flow) × GoesOn l.file l.progress
 
 abbrev pub decreases-lines : goal.decreases-lines
 decreases-lines l = length l.file + 1 - l.progress.at
