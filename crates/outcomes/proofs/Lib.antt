@@ -1,3 +1,2 @@
-mod Reading
-mod Walking
-mod Showing
+mod Finding
+mod Splitting

@@ -2,17 +2,14 @@
 --     refusal_line k n t   the line of a refusal with the number k, at line n, by the reader with the word t
 --     refused_line r       the line of a file that is refused by r
 --     checked_line o       the line of a file that was checked with the outcome o
---     reason_of k          the fault k in words
 --     visible b            the byte b as it is shown: `?` where it is not printable ASCII
 --     line_text n bs       the bytes of line n of bs, counted from 0, without its line feed; empty past the last
 --     explained bs r       what is said to people of the file bs, which is refused by r
 use Rattle.std.specs.Prelude.{ℕ, zero, suc, ◌-◌, cond, ◌&&◌, List, [], ◌∷◌, ◌++◌, map, Ok, Err, codes, decimal, Result, ◌==◌, nat_le}
-use Rattle.refusals.specs.declared.refusal.Fault.{Fault}
-use Rattle.refusals.specs.declared.refusal.Fault.TheVariants.{Byte, Shape, Name, Twice, Undeclared, TooMany}
 use Rattle.refusals.specs.declared.refusal.Refusal.{Refusal}
 use Rattle.refusals.specs.declared.refusal.Refusal.TheVariants.{TooLong, Line}
 use Rattle.refusals.specs.declared.refusal.Summary.{Summary}
-use Rattle.refusals.specs.Refusals.{number_of, line_of, reader_of, reader_text}
+use Rattle.refusals.specs.Refusals.{number_of, line_of, reader_of, reader_text, reason_of}
 
 abbrev pub refusal_line : ℕ → ℕ → List ℕ → List ℕ
 refusal_line k n t = codes "(refused " ++ (decimal k ++ (codes " " ++ (decimal n ++ (codes " " ++ (t ++ codes ")\n")))))
@@ -24,14 +21,6 @@ abbrev pub checked_line : Result Summary Refusal → List ℕ
 checked_line (Ok s) =
     codes "(flow " ++ (decimal s.events ++ (codes " " ++ (decimal s.rules ++ (codes " " ++ (decimal s.leaves ++ codes ")\n")))))
 checked_line (Err r) = refused_line r
-
-abbrev pub reason_of : Fault → List ℕ
-reason_of Byte = codes "it has a byte that stands in no flow file"
-reason_of Shape = codes "it has not the form of an event or a rule that may come there"
-reason_of Name = codes "a name in it is too long, badly begun or reserved"
-reason_of Twice = codes "it declares an event that was declared before"
-reason_of Undeclared = codes "a name in it is not declared above"
-reason_of TooMany = codes "it is event 13 or rule 17, or has leaf 65"
 
 -- 32 is the space, the first printable byte, 126 is `~`, the last, and 63 is `?`
 abbrev pub visible : ℕ → ℕ

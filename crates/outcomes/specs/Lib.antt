@@ -1,4 +1,3 @@
 pub mod Files
-pub mod Texts
 pub mod Lines
-pub mod Walks
+pub mod Words

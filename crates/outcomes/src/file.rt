@@ -1,21 +1,21 @@
 // What is said of a flow file.
 ghost use Rattle.std.specs.Prelude.{◌≡◌, map, IfOk, string_bytes};
-ghost use Rattle.outcomes.specs.Files.{refusal_line, refused_line, checked_line, reason_of, visible, line_text, explained};
+ghost use Rattle.refusals.specs.Refusals.{reader_text};
+ghost use Rattle.outcomes.specs.Files.{refusal_line, refused_line, checked_line, visible, line_text, explained};
 
-use refusals::{Fault, Refusal, Summary};
+use refusals::{Reader, Refusal, Summary};
 use std::alloc::{AllocError, Global};
 
 // The line of a flow file that is refused.
 pub fn refused(heap: Global, refusal: Refusal) -> Result<String, AllocError>
     ensures { IfOk result (λ s. string_bytes s ≡ refused_line refusal) }
 {
-    let reader = refusal.reader().text();
-    refusal_line(heap, refusal.number(), refusal.line(), reader)
+    refusal_line(heap, refusal.number(), refusal.line(), refusal.reader())
 }
 
 // The line of a refusal: its number, its line and its reader's word.
-fn refusal_line(heap: Global, number: u8, line: usize, reader: &str) -> Result<String, AllocError>
-    ensures { IfOk result (λ s. string_bytes s ≡ refusal_line number line reader.now) }
+fn refusal_line(heap: Global, number: u8, line: usize, reader: Reader) -> Result<String, AllocError>
+    ensures { IfOk result (λ s. string_bytes s ≡ refusal_line number line (reader_text reader)) }
 {
     format!(in heap; "(refused {number} {line} {reader})\n")
 }
@@ -42,25 +42,10 @@ pub fn explain_file(heap: Global, refusal: Refusal, file: &[u8]) -> Result<Strin
     match refusal {
         Refusal::TooLong => String::from_str(heap, "the flow file is longer than 16384 bytes"),
         Refusal::Line(line, fault) => {
-            let reason = reason(fault);
             let text = shown_line(heap, file, line.saturating_sub(1))?;
             let text = text.as_str();
-            format!(in heap; "line {line}: {reason}: {text}")
+            format!(in heap; "line {line}: {fault}: {text}")
         }
-    }
-}
-
-// A fault in words.
-fn reason(fault: Fault) -> &'static str
-    ensures { result.now ≡ reason_of fault }
-{
-    match fault {
-        Fault::Byte => "it has a byte that stands in no flow file",
-        Fault::Shape => "it has not the form of an event or a rule that may come there",
-        Fault::Name => "a name in it is too long, badly begun or reserved",
-        Fault::Twice => "it declares an event that was declared before",
-        Fault::Undeclared => "a name in it is not declared above",
-        Fault::TooMany => "it is event 13 or rule 17, or has leaf 65",
     }
 }
 
@@ -69,19 +54,17 @@ fn shown_line(heap: Global, file: &[u8], number: usize) -> Result<String, AllocE
     ensures { IfOk result (λ s. string_bytes s ≡ map visible (line_text number file.now)) }
 {
     let mut text = String::new(heap);
-    // How many lines are still to be passed.
-    let mut before = number;
-    for byte in file {
-        if *byte == b'\n' {
-            if before == 0 {
-                return Ok(text);
-            }
-            before -= 1;
-        } else if before == 0 {
-            text.push(shown(*byte))?;
-        }
+    for byte in line_at(file, number) {
+        text.push(shown(*byte))?;
     }
     Ok(text)
+}
+
+// The bytes of a line of a file, counted from 0, without its line feed; empty past the last line.
+fn line_at(file: &[u8], number: usize) -> &[u8]
+    ensures { result.now ≡ line_text number file.now }
+{
+    file.split(|byte| *byte == b'\n').nth(number).unwrap_or(b"")
 }
 
 // A byte as it is shown: `?` where it is not printable ASCII.

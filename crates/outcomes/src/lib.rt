@@ -2,9 +2,9 @@
 #![tactic(auto)]
 
 pub mod file;
-pub mod lines;
-pub mod literal;
-pub mod walk;
+pub mod subject;
+pub mod words;
 
 pub use file::{checked, explain_file, refused};
-pub use walk::{Outcome, Report, explain_words, left};
+pub use report::{Report, WordError};
+pub use words::{explain_words, left};

@@ -1,3 +1,4 @@
-pub mod Reading
+mod Finding
 mod Printing
+mod Settling
 pub mod Walking

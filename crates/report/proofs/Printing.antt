@@ -1,12 +1,11 @@
 -- Lines printed one after the other.
-use Rattle.std.proofs.Common.{◌≡◌, ℕ, zero, suc, ◌+◌, ◌<◌, ◌≤◌, Bool, List, [], ◌∷◌, ◌++◌, length, get_or, Some, None, sym, refl, ap, ◌∙◌, subst, inl, inr, append_assoc, append-nil, arith, length-append}
+use Rattle.std.proofs.Common.{◌≡◌, ℕ, zero, suc, ◌+◌, ◌<◌, Bool, List, [], ◌∷◌, ◌++◌, length, Some, sym, refl, ap, ◌∙◌, subst, inl, inr, append_assoc, append-nil, arith, length-append}
 use Rattle.std.specs.List.{slice_get}
-use Rattle.std.proofs.lemmas.Option.{slice_get-get_or}
 use Rattle.std.proofs.lemmas.Bool.{cases_eq}
 use Rattle.algebra.specs.declared.literal.Literal.{Literal}
 use Rattle.algebra.specs.declared.expr.Expr.{Expr}
 use Rattle.algebra.specs.Rules.{Answers}
-use Rattle.report.specs.Lines.{rule_line, rule_lines, RuleLines}
+use Rattle.report.specs.Lines.{rule_line, rule_lines}
 
 lines_push : (k : ℕ) (bs : List Bool) (b : Bool) → rule_lines k (bs ++ (b ∷ [])) ≡ rule_lines k bs ++ rule_line (k + length bs) b
 lines_push k [] b = append-nil _ ∙ ap (λ n. rule_line n b) (let q : k ≡ k + 0 = omega arith in q)
@@ -30,9 +29,6 @@ pub record Printed (xs : List Expr) (w : List Literal) (n : ℕ) (text : List �
   pub right : (k : ℕ) → k < n → Answers xs w k (slice_get answers k)
   pub lines : text ≡ rule_lines 0 answers
 
-pub printed_none : (xs : List Expr) (w : List Literal) (text : List ℕ) → text ≡ [] → Printed xs w 0 text
-printed_none xs w text e = record { answers = []; many = refl; right = λ k h. absurd (omega arith); lines = e }
-
 module _ (xs : List Expr) (w : List Literal) (n : ℕ) (text : List ℕ) (old : Printed xs w n text) where
   pub printed_more : (b : Bool) (line next : List ℕ) → Answers xs w n (Some b) → line ≡ rule_line n b → next ≡ text ++ line → Printed xs w (n + 1) next
   printed_more b line next said is grown =
@@ -46,15 +42,3 @@ module _ (xs : List Expr) (w : List Literal) (n : ℕ) (text : List ℕ) (old : 
         ];
         lines = grown ∙ ap (λ t. t ++ line) old.lines ∙ ap (λ t. rule_lines 0 bs ++ t) (is ∙ ap (λ m. rule_line m b) (let m = old.many in let q : n ≡ 0 + length bs = omega arith in q)) ∙ sym (lines_push 0 bs b);
       }
-
-  pub printed_all : length xs ≤ n → n ≤ length xs → RuleLines xs w text
-  printed_all h k =
-      let m = old.many in
-      (old.answers, ((omega arith), λ j l. old.right j (omega arith)), old.lines)
-
-pub no_rule : (xs : List Expr) (k : ℕ) → k < length xs → slice_get xs k ≡ None → ⊥
-no_rule xs k h e = let z : slice_get xs k ≡ Some (get_or xs k (first xs h)) = slice_get-get_or xs k (first xs h) h in let q : ◌≡◌ {A = ℕ} 0 1 = cc in omega arith
-  where
-    first : (ys : List Expr) → k < length ys → Expr
-    first [] l = absurd (omega arith)
-    first (y ∷ ys) l = y

@@ -1,3 +1,5 @@
 pub mod Texts
 pub mod Lines
+pub mod Takes
 pub mod Walks
+pub mod Refusals

@@ -1,15 +1,18 @@
 -- The lines that are printed of literals taken one by one. Assumes nothing.
---     settles l                 the status that the literal l gives its event
---     settled ss l              the statuses ss after the literal l
---     statuses_after w          the statuses of events 0 to 11 after the literals w
---     marks_after xs w          the marks of the rules xs after the literals w
---     left_line t n m           the line of a literal with the text t, where n is the status word after it, and m are the marks
---     left_lines names xs u v   the lines of the literals v, in turn, where the literals u came before them
---     verdict_of b              what is said of a rule, which is fulfilled if b
---     rule_line k b             the line of rule k, which is fulfilled if b
---     rule_lines k bs           the lines of the rules from k on, which are fulfilled as bs says
---     Judged xs w bs            bs says of each of the rules xs, in turn, whether w meets it
---     RuleLines xs w t          t are the lines of the rules xs, each fulfilled exactly if w meets it
+--     settles l                      the status that the literal l gives its event
+--     settled ss l                   the statuses ss after the literal l
+--     statuses_after w               the statuses of events 0 to 11 after the literals w
+--     marks_after xs w               the marks of the rules xs after the literals w
+--     Wording                        how the lines of a report are worded: that of a literal, given its text, and the status word and the marks after it,
+--                                    and that of a word that is refused, empty where none is printed
+--     left_lines line names xs u v   the lines of the literals v, in turn, where the literals u came before them
+--     left_line t n m                the line of a literal with the text t, where n is the status word after it, and m are the marks
+--     by_name                        the wording in which the line of a literal shows it, and a word that is refused has no line
+--     verdict_of b                   what is said of a rule, which is fulfilled if b
+--     rule_line k b                  the line of rule k, which is fulfilled if b
+--     rule_lines k bs                the lines of the rules from k on, which are fulfilled as bs says
+--     Judged xs w bs                 bs says of each of the rules xs, in turn, whether w meets it
+--     RuleLines xs w t               t are the lines of the rules xs, each fulfilled exactly if w meets it
 use Rattle.std.specs.Prelude.{◌≡◌, ℕ, ◌+◌, ◌<◌, Bool, true, false, List, [], ◌∷◌, ◌++◌, length, replicate, codes, decimal, fold, slice_set}
 use Rattle.std.specs.List.{slice_get}
 use Rattle.algebra.specs.declared.literal.Literal.{Literal}
@@ -37,14 +40,21 @@ statuses_after w = fold settled (replicate 12 status.Open) w
 abbrev pub marks_after : List Expr → List Literal → Marks
 marks_after xs w = fold (applied_all xs) (fresh_all xs) w
 
+pub record Wording : Type 0 where
+  pub line : List ℕ → ℕ → Marks → List ℕ
+  pub refused : List ℕ → List ℕ
+
+abbrev pub left_lines : (List ℕ → ℕ → Marks → List ℕ) → List (List ℕ) → List Expr → List Literal → List Literal → List ℕ
+left_lines line names xs u [] = []
+left_lines line names xs u (l ∷ v) =
+    line (text_of names l) (packed (statuses_after (u ++ (l ∷ [])))) (marks_after xs (u ++ (l ∷ []))) ++ left_lines line names xs (u ++ (l ∷ [])) v
+
 abbrev pub left_line : List ℕ → ℕ → Marks → List ℕ
 left_line t n m =
     codes "(left " ++ (t ++ (codes " " ++ (decimal n ++ (codes " " ++ (decimal m.met ++ (codes " " ++ (decimal m.struck ++ codes ")\n")))))))
 
-abbrev pub left_lines : List (List ℕ) → List Expr → List Literal → List Literal → List ℕ
-left_lines names xs u [] = []
-left_lines names xs u (l ∷ v) =
-    left_line (text_of names l) (packed (statuses_after (u ++ (l ∷ [])))) (marks_after xs (u ++ (l ∷ []))) ++ left_lines names xs (u ++ (l ∷ [])) v
+abbrev pub by_name : Wording
+by_name = record { line = left_line; refused = λ t. [] }
 
 abbrev pub verdict_of : Bool → List ℕ
 verdict_of true = codes "fulfilled"

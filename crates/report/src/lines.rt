@@ -10,6 +10,7 @@ use sheet::{Status, StatusWord};
 use std::alloc::{AllocError, Global};
 
 // The statuses after a literal. A word holds twelve events, so a literal of another changes nothing.
+#[tactic(auto, using(crate::proofs::Settling::settled_or_same))]
 pub fn settle(word: StatusWord, literal: Literal) -> StatusWord
     ensures { bits_of result ≡ packed (settled (statuses (bits_of word)) literal) }
 {
@@ -17,10 +18,7 @@ pub fn settle(word: StatusWord, literal: Literal) -> StatusWord
         Literal::Happened(_) => Status::Happened,
         Literal::Never(_) => Status::Never,
     };
-    match word.with(literal.event(), status) {
-        Some(after) => after,
-        None => word,
-    }
+    word.with(literal.event(), status).unwrap_or(word)
 }
 
 // The line of a literal, with the three numbers of the position after it.
@@ -63,13 +61,9 @@ pub fn rule_lines(heap: Global, rules: &Rules, trace: &Trace) -> Result<String, 
 {
     let mut text = String::new(heap);
     for number in 0..rules.len() {
-        match rules.fulfilled_by(number, trace) {
-            None => unreachable(),
-            Some(fulfilled) => {
-                let line = rule_line(heap, number, fulfilled)?;
-                text.push_str(line.as_str())?;
-            }
-        }
+        let fulfilled = rules.fulfilled_by(number, trace).unwrap();
+        let line = rule_line(heap, number, fulfilled)?;
+        text.push_str(line.as_str())?;
     }
     Ok(text)
 }

@@ -1,29 +1,26 @@
 // What is left of rules, printed literal by literal.
-ghost use Rattle.std.specs.Prelude.{◌≡◌, ◌+◌, [], map, IfOk, string_bytes, slice_index_or};
-ghost use Rattle.std.specs.Option.{option_map};
+ghost use Rattle.std.specs.Prelude.{◌≡◌, ◌++◌, map, IfOk, string_bytes};
 ghost use Rattle.algebra.specs.Of.{rules_of};
-ghost use Rattle.report.specs.Walks.{Begun, Took, Told, refusal_of};
+ghost use Rattle.report.specs.Lines.{by_name};
+ghost use Rattle.report.specs.Texts.{first_twelve};
+ghost use Rattle.report.specs.Walks.{Begun, Took, Told};
+ghost use Rattle.report.specs.declared.walk.TakeError.TheVariants.{Memory};
+ghost use Rattle.report.specs.Takes.{Becomes};
 
-use super::lines::{left_line, rule_lines, settle};
-use super::names::read_literal;
+use super::error::WordError;
+use super::lines::{rule_lines, settle};
+use super::literal::read_literal;
+use super::named::NamedRules;
+use super::subject::Subject;
 use algebra::{Marks, Rules, Trace, TraceError};
 use sheet::StatusWord;
 use std::alloc::{AllocError, Global};
 
-// How far a list of words was read as literals: all of it, or up to the word of that number,
-// counted from 0 and below the number of words, which is no literal or whose event came before.
-#[derive(Clone, Copy)]
-pub enum Outcome {
-    Complete,
-    Unknown(usize),
-    Twice(usize),
-}
-
-// The bytes to print, and how far the words were read.
+// The bytes to print, and whether all words were read, or why not.
 #[derive(Drop)]
 pub struct Report {
     pub text: String,
-    pub outcome: Outcome,
+    pub outcome: Result<(), WordError>,
 }
 
 // The literals taken so far, the position after them, and what is printed of them.
@@ -35,129 +32,115 @@ pub(crate) struct Walk {
     text: String,
 }
 
-// Whether a word was taken as a literal.
-#[derive(Clone, Copy)]
-pub(crate) enum Step {
-    Taken,
+// Why a word is not taken.
+#[derive(Clone, Copy, Debug, PartialEq, Eq)]
+pub(crate) enum TakeError {
+    // It is no literal.
     Unknown,
+    // Its event came before.
     Twice,
+    Memory(AllocError),
+}
+
+impl From<TraceError> for TakeError {
+    ghost from_gives = { Becomes };
+
+    fn from(error: TraceError) -> TakeError {
+        match error {
+            TraceError::Twice => TakeError::Twice,
+            TraceError::Memory => TakeError::Memory(AllocError),
+        }
+    }
+}
+
+impl From<AllocError> for TakeError {
+    ghost from_gives = { λ error taken. taken ≡ Memory error };
+
+    fn from(error: AllocError) -> TakeError {
+        TakeError::Memory(error)
+    }
 }
 
 impl Walk {
-    fn begin(heap: Global, rules: &Rules) -> Walk
-        ensures { Begun (rules_of rules.now) result }
+    fn begin<S: Subject>(heap: Global, subject: &S) -> Walk
+        ensures { Begun (S.rules subject.now) result }
     {
         Walk {
             trace: Trace::new(heap),
             word: StatusWord::all_open(),
-            marks: rules.fresh(),
+            marks: subject.rules().fresh(),
             text: String::new(heap),
         }
     }
 
     // Takes one word more, and prints its line; a word that is refused changes nothing.
-    fn take(
-        &mut self,
-        heap: Global,
-        names: &[&[u8]],
-        rules: &Rules,
-        word: &str,
-    ) -> Result<Step, AllocError>
-        ensures { Took (map (λ x. x.now) names.now) (rules_of rules.now) self.old word.now self.new result }
+    fn take<S: Subject>(&mut self, heap: Global, subject: &S, word: &str) -> Result<(), TakeError>
+        ensures { Took S.wording (S.names subject.now) (S.rules subject.now) self.old word.now self.new result }
     {
-        let literal = match read_literal(names, word.as_bytes()) {
-            None => return Ok(Step::Unknown),
-            Some(literal) => literal,
-        };
-        match self.trace.push(literal) {
-            Ok(()) => {}
-            Err(error) => {
-                return match error {
-                    TraceError::Twice => Ok(Step::Twice),
-                    TraceError::Memory => Err(AllocError),
-                };
-            }
-        }
+        let literal = read_literal(subject, word.as_bytes()).ok_or(TakeError::Unknown)?;
+        self.trace.push(literal)?;
         self.word = settle(self.word, literal);
-        self.marks = rules.apply(literal, self.marks);
-        let line = left_line(heap, word, self.word, self.marks)?;
+        self.marks = subject.rules().apply(literal, self.marks);
+        let line = subject.left_line(heap, word, self.word, self.marks)?;
         self.text.push_str(line.as_str())?;
-        Ok(Step::Taken)
+        Ok(())
     }
 
-    fn report(self, outcome: Outcome) -> Report
+    // Prints the line of a word that is refused, and ends there.
+    fn refuse<S: Subject>(
+        mut self,
+        heap: Global,
+        subject: &S,
+        word: &str,
+        error: WordError,
+    ) -> Result<Report, AllocError>
+        ensures { IfOk result (λ p. (string_bytes p.text ≡ string_bytes self.text ++ S.wording.refused word.now) × (p.outcome ≡ Err error)) }
+    {
+        let line = subject.refused_line(heap, word)?;
+        self.text.push_str(line.as_str())?;
+        Ok(self.report(Err(error)))
+    }
+
+    fn report(self, outcome: Result<(), WordError>) -> Report
         ensures { (string_bytes result.text ≡ string_bytes self.text) × (result.outcome ≡ outcome) }
     {
-        let Walk {
-            trace: _,
-            word: _,
-            marks: _,
-            text,
-        } = self;
+        let Walk { text, .. } = self;
         Report { text, outcome }
     }
 }
 
 // Reads words as literals, as far as they are a trace, and prints them; then, if all were read, what
-// each rule came to.
+// each rule came to, and otherwise the word that is refused.
+pub fn tell<S: Subject>(heap: Global, subject: &S, words: &[String]) -> Result<Report, AllocError>
+    ensures { IfOk result (λ p. Told S.wording (S.names subject.now) (S.rules subject.now) (map string_bytes words.now) (string_bytes p.text) p.outcome) }
+{
+    let mut walk = Walk::begin(heap, subject);
+    for (number, word) in words.iter().enumerate() {
+        let word = word.as_str();
+        match walk.take(heap, subject, word) {
+            Ok(()) => {}
+            Err(TakeError::Unknown) => {
+                return walk.refuse(heap, subject, word, WordError::Unknown(number));
+            }
+            Err(TakeError::Twice) => {
+                return walk.refuse(heap, subject, word, WordError::Twice(number));
+            }
+            Err(TakeError::Memory(error)) => return Err(error),
+        }
+    }
+    let lines = rule_lines(heap, subject.rules(), &walk.trace)?;
+    walk.text.push_str(lines.as_str())?;
+    Ok(walk.report(Ok(())))
+}
+
+// The report of words over a list of names, whose lines show the words.
 pub fn left(
     heap: Global,
     names: &[&[u8]],
     rules: &Rules,
     words: &[String],
 ) -> Result<Report, AllocError>
-    ensures { IfOk result (λ p. Told (map (λ x. x.now) names.now) (rules_of rules.now) (map string_bytes words.now) (string_bytes p.text) p.outcome) }
+    ensures { IfOk result (λ p. Told by_name (first_twelve names.now) (rules_of rules.now) (map string_bytes words.now) (string_bytes p.text) p.outcome) }
 {
-    let mut walk = Walk::begin(heap, rules);
-    for (number, word) in words.iter().enumerate() {
-        match walk.take(heap, names, rules, word.as_str())? {
-            Step::Taken => {}
-            Step::Unknown => return Ok(walk.report(Outcome::Unknown(number))),
-            Step::Twice => return Ok(walk.report(Outcome::Twice(number))),
-        }
-    }
-    let lines = rule_lines(heap, rules, &walk.trace)?;
-    walk.text.push_str(lines.as_str())?;
-    Ok(walk.report(Outcome::Complete))
-}
-
-// What is said to people where not all words were read: the line of the first that was not, counted
-// from 1, and why; absent where all were read.
-pub fn refusal(
-    heap: Global,
-    outcome: Outcome,
-    words: &[String],
-) -> Result<Option<String>, AllocError>
-    ensures { IfOk result (λ m. option_map string_bytes m ≡ refusal_of (map string_bytes words.now) outcome) }
-{
-    match outcome {
-        Outcome::Complete => Ok(None),
-        Outcome::Unknown(number) => {
-            let line = line_of(number);
-            let word = word_at(words, number);
-            Ok(Some(format!(in heap; "line {line}: there is no event for '{word}'")?))
-        }
-        Outcome::Twice(number) => {
-            let line = line_of(number);
-            let word = word_at(words, number);
-            Ok(Some(format!(in heap; "line {line}: the event of '{word}' came before")?))
-        }
-    }
-}
-
-// The line of the word of a number.
-fn line_of(number: usize) -> u128
-    ensures { result ≡ number + 1 }
-{
-    number as u128 + 1
-}
-
-// The word of a number; empty past the last.
-fn word_at(words: &[String], number: usize) -> &str
-    ensures { result.now ≡ slice_index_or (map string_bytes words.now) number [] }
-{
-    match words.get(number) {
-        Some(word) => word.as_str(),
-        None => "",
-    }
+    tell(heap, &NamedRules { names, rules }, words)
 }

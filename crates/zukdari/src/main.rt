@@ -9,11 +9,7 @@ use std::io;
 
 fn read_words(rt: &HostRuntime) -> io::Result<Vec<String>> {
     let heap = rt.alloc();
-    let mut words = Vec::new(heap);
-    for line in rt.lines(heap) {
-        words.push(line?)?;
-    }
-    Ok(words)
+    rt.lines(heap).try_collect(heap)
 }
 
 fn run(rt: &HostRuntime) -> anyhow::Result<()> {

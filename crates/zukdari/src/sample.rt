@@ -18,12 +18,8 @@ fn leaf(heap: Global, literal: Literal, number: u8) -> Result<Box<Expr>, AllocEr
     requires { number < 64 }
     ensures { IfOk result (λ b. Holds literal number b.value) }
 {
-    let number = match LeafNumber::new(number) {
-        Some(number) => number,
-        None => unreachable(),
-    };
-    let leaf = Box::new(heap, Expr::Leaf(Atom::Lit(literal), number))?;
-    Ok(leaf)
+    let number = LeafNumber::new(number).unwrap();
+    Ok(Box::new(heap, Expr::Leaf(Atom::Lit(literal), number))?)
 }
 
 // (alt ~plate (seq approve plate))
@@ -37,9 +33,7 @@ pub fn rules(heap: Global) -> Result<Rules, AllocError>
     let mut rules = Rules::new(heap);
     match rules.push(Expr::Binary(Head::Alt, no_plate, in_order)) {
         Ok(()) => Ok(rules),
-        Err(error) => match error {
-            RulesError::Memory(_) => Err(AllocError),
-            RulesError::Misnumbered(_) => unreachable(),
-        },
+        Err(RulesError::Memory(_)) => Err(AllocError),
+        Err(RulesError::Misnumbered(_)) => unreachable(),
     }
 }
