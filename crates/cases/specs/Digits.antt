@@ -1,6 +1,7 @@
 -- Numbers by their last digit, as keys. Assumes nothing.
 --     same_digit a b     a and b end in one digit
 --     parity a           0 for an even number, 1 for an odd one, which numbers with one last digit share
+--     digit_laws         sameness of last digits is an equivalence, and such numbers share their parity
 use Rattle.std.specs.Prelude.{ℕ, ◌%◌, Bool, ◌==◌, refl}
 use Rattle.std.proofs.Common.{sym, ◌∙◌, arith}
 use Rattle.std.proofs.lemmas.Bool.{eqb-true, eq-eqb}

@@ -21,29 +21,33 @@ impl<T: Drop> From<AllocFailed<T>> for Bad {
     }
 }
 
+// What is left of a text.
 #[derive(Drop)]
 struct Reader<'a> {
-    text: &'a [u8],
-    at: usize,
+    rest: &'a [u8],
+    // The number that the next leaf has: at most 64.
     next: u8,
 }
 
-impl Reader<'_> {
-    fn byte(&mut self) -> Result<u8, Bad> {
-        if self.at >= self.text.len() {
-            return Err(Bad::Text);
+impl<'a> Reader<'a> {
+    fn of(text: &'a [u8]) -> Reader<'a> {
+        Reader {
+            rest: text,
+            next: 0,
         }
-        let b = self.text[self.at];
-        self.at += 1;
-        Ok(b)
+    }
+
+    fn byte(&mut self) -> Result<u8, Bad> {
+        let (byte, rest) = self.rest.split_first().ok_or(Bad::Text)?;
+        self.rest = rest;
+        Ok(*byte)
     }
 
     // The event of a letter from a to l.
     fn event(&mut self, letter: u8) -> Result<u8, Bad> {
-        if letter >= b'a' && letter <= b'l' {
-            Ok(letter - b'a')
-        } else {
-            Err(Bad::Text)
+        match letter {
+            b'a'..=b'l' => Ok(letter - b'a'),
+            _ => Err(Bad::Text),
         }
     }
 
@@ -57,13 +61,9 @@ impl Reader<'_> {
     }
 
     fn leaf(&mut self, atom: Atom) -> Result<Expr, Bad> {
-        match LeafNumber::new(self.next) {
-            None => Err(Bad::Text),
-            Some(number) => {
-                self.next = self.next.saturating_add(1);
-                Ok(Expr::Leaf(atom, number))
-            }
-        }
+        let number = LeafNumber::new(self.next).ok_or(Bad::Text)?;
+        self.next = self.next.saturating_add(1);
+        Ok(Expr::Leaf(atom, number))
     }
 
     // An expression in prefix form, at most `depth` heads deep.
@@ -95,42 +95,28 @@ impl Reader<'_> {
 }
 
 pub fn rules(heap: Global, text: &[u8]) -> Result<Rules, Bad> {
-    let mut reader = Reader {
-        text,
-        at: 0,
-        next: 0,
-    };
+    let mut reader = Reader::of(text);
     let mut rules = Rules::new(heap);
     for _ in 0..64 {
-        if reader.at >= text.len() {
+        if reader.rest.is_empty() {
             return Ok(rules);
         }
         let rule = reader.expr(heap, 8)?;
-        match rules.push(rule) {
-            Ok(()) => {}
-            Err(_) => return Err(Bad::Memory),
-        }
+        rules.push(rule).map_err(|_| Bad::Memory)?;
     }
     Err(Bad::Text)
 }
 
 pub fn trace(heap: Global, text: &[u8]) -> Result<Trace, Bad> {
-    let mut reader = Reader {
-        text,
-        at: 0,
-        next: 0,
-    };
+    let mut reader = Reader::of(text);
     let mut trace = Trace::new(heap);
     for _ in 0..256 {
-        if reader.at >= text.len() {
+        if reader.rest.is_empty() {
             return Ok(trace);
         }
         let first = reader.byte()?;
         let literal = reader.literal(first)?;
-        match trace.push(literal) {
-            Ok(()) => {}
-            Err(_) => return Err(Bad::Text),
-        }
+        trace.push(literal).map_err(|_| Bad::Text)?;
     }
     Err(Bad::Text)
 }
@@ -145,17 +131,14 @@ pub fn verdict(text: &[u8], number: usize) -> Option<bool> {
 }
 
 pub fn words(heap: Global, texts: &[&str]) -> Result<Vec<String>, Bad> {
-    let mut words = Vec::new(heap);
-    for text in texts {
-        words.push(String::from_str(heap, text)?)?;
-    }
-    Ok(words)
+    texts
+        .iter()
+        .map(|text| -> Result<String, Bad> { Ok(String::from_str(heap, text)?) })
+        .try_collect(heap)
 }
 
 // The leaf of a number, which every trace meets.
 pub fn yes(number: u8) -> Result<Expr, Bad> {
-    match LeafNumber::new(number) {
-        None => Err(Bad::Text),
-        Some(number) => Ok(Expr::Leaf(Atom::Yes, number)),
-    }
+    let number = LeafNumber::new(number).ok_or(Bad::Text)?;
+    Ok(Expr::Leaf(Atom::Yes, number))
 }

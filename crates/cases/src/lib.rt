@@ -13,7 +13,7 @@ mod tests {
     use forms::expr_end;
     use report::{left, refusal, settle};
     use sheet::{Status, StatusWord};
-    use slots::{Inserted, Slot, clear, find, insert};
+    use slots::{Entry, InsertError, Slot, clear, find, insert};
     use std::alloc::Global;
     use std::process::Abort;
     use std::test::Fail;
@@ -90,27 +90,35 @@ mod tests {
 
     // Words over the events approve and plate under one rule, what is printed of them, and what is said
     // of the first that is refused.
-    type Told = (&'static [&'static str], &'static str, &'static str);
+    type Told = (&'static [&'static str], &'static str, Option<&'static str>);
 
     static TOLD: [Told; 6] = [
         (
             &["approve", "plate"],
             "(left approve 2 2 0)\n(left plate 10 6 1)\n(rule 0 fulfilled)\n",
-            "",
+            None,
         ),
-        (&["plate"], "(left plate 8 0 5)\n(rule 0 unfulfilled)\n", ""),
-        (&[], "(rule 0 unfulfilled)\n", ""),
+        (
+            &["plate"],
+            "(left plate 8 0 5)\n(rule 0 unfulfilled)\n",
+            None,
+        ),
+        (&[], "(rule 0 unfulfilled)\n", None),
         (
             &["approve", "print"],
             "(left approve 2 2 0)\n",
-            "line 2: there is no event for 'print'",
+            Some("line 2: there is no event for 'print'"),
         ),
         (
             &["~plate", "approve", "plate"],
             "(left ~plate 12 1 4)\n(left approve 14 3 4)\n",
-            "line 3: the event of 'plate' came before",
+            Some("line 3: the event of 'plate' came before"),
         ),
-        (&["~~plate"], "", "line 1: there is no event for '~~plate'"),
+        (
+            &["~~plate"],
+            "",
+            Some("line 1: there is no event for '~~plate'"),
+        ),
     ];
 
     fn told_holds(rt: &impl Abort, heap: Global, told: &Told) -> Result<(), Fail> {
@@ -119,10 +127,8 @@ mod tests {
         let words = build::words(heap, words)?;
         let report = left(heap, &[b"approve", b"plate"], &rules, words.as_slice())?;
         assert!(rt; report.text.as_str() == printed);
-        match refusal(heap, report.outcome, words.as_slice())? {
-            None => assert!(rt; refused == ""),
-            Some(message) => assert!(rt; message.as_str() == refused),
-        }
+        let said = refusal(heap, report.outcome, words.as_slice())?;
+        assert_eq!(rt; said.as_deref(), refused);
         Ok(())
     }
 
@@ -134,32 +140,22 @@ mod tests {
         Ok(())
     }
 
-    fn number(status: Option<Status>) -> u8 {
-        match status {
-            Some(status) => status.number(),
-            None => 255,
-        }
-    }
-
-    fn bits(word: Option<StatusWord>) -> u32 {
-        match word {
-            Some(word) => word.bits,
-            None => u32::MAX,
-        }
+    fn bits(word: Option<StatusWord>) -> Option<u32> {
+        word.map(|word| word.bits)
     }
 
     #[test]
     fn the_word_has_twelve_events(rt: HostRuntime) -> Result<(), Fail> {
-        assert_eq!(rt; bits(StatusWord::from_bits(0x100_0000)), u32::MAX);
-        let Some(full) = StatusWord::from_bits(0xff_ffff) else {
-            return Err(Fail::new("the largest word is refused"));
-        };
+        assert_eq!(rt; bits(StatusWord::try_from(0x100_0000).ok()), None);
+        let full = StatusWord::try_from(0xff_ffff).map_err(|_| Fail::new(
+            "the largest word is refused",
+        ))?;
         assert_eq!(rt; full.bits, 0xff_ffff);
-        assert_eq!(rt; number(full.get(11)), 3);
-        assert_eq!(rt; number(full.get(12)), 255);
-        assert_eq!(rt; bits(full.with(0, Status::Open)), 0xff_fffc);
-        assert_eq!(rt; bits(full.with(11, Status::Waiting)), 0x7f_ffff);
-        assert_eq!(rt; bits(full.with(12, Status::Open)), u32::MAX);
+        assert_eq!(rt; full.get(11).map(u8::from), Some(3));
+        assert_eq!(rt; full.get(12), None);
+        assert_eq!(rt; bits(full.with(0, Status::Open)), Some(0xff_fffc));
+        assert_eq!(rt; bits(full.with(11, Status::Waiting)), Some(0x7f_ffff));
+        assert_eq!(rt; bits(full.with(12, Status::Open)), None);
         Ok(())
     }
 
@@ -183,28 +179,23 @@ mod tests {
         LastDigit { number }
     }
 
-    fn told(answer: Inserted) -> u32 {
-        match answer {
-            Inserted::New => 1000,
-            Inserted::Present(value) => value,
-            Inserted::Full => 2000,
-        }
+    fn taken(key: LastDigit, value: u32) -> Slot<LastDigit> {
+        Some(Entry { key, value })
     }
 
     #[test]
     fn keys_are_inserted_once_and_found(rt: HostRuntime) {
-        let mut slots = [
-            Slot::Taken(digit(7), 9),
-            Slot::Free,
-            Slot::Taken(digit(8), 9),
-        ];
+        let mut slots = [taken(digit(7), 9), None, taken(digit(8), 9)];
         clear(&mut slots);
         assert_eq!(rt; find(&slots, &digit(7)), None);
-        assert_eq!(rt; told(insert(&mut slots, digit(7), 1)), 1000);
-        assert_eq!(rt; told(insert(&mut slots, digit(9), 2)), 1000);
-        assert_eq!(rt; told(insert(&mut slots, digit(17), 3)), 1);
-        assert_eq!(rt; told(insert(&mut slots, digit(4), 4)), 1000);
-        assert_eq!(rt; told(insert(&mut slots, digit(5), 5)), 2000);
+        assert_eq!(rt; insert(&mut slots, digit(7), 1), Ok(()));
+        assert_eq!(rt; insert(&mut slots, digit(9), 2), Ok(()));
+        assert_eq!(rt;
+            insert(&mut slots, digit(17), 3),
+            Err(InsertError::Present(1))
+        );
+        assert_eq!(rt; insert(&mut slots, digit(4), 4), Ok(()));
+        assert_eq!(rt; insert(&mut slots, digit(5), 5), Err(InsertError::Full));
         assert_eq!(rt; find(&slots, &digit(27)), Some(1));
         assert_eq!(rt; find(&slots, &digit(39)), Some(2));
         assert_eq!(rt; find(&slots, &digit(14)), Some(4));
@@ -215,49 +206,44 @@ mod tests {
     fn no_slots_are_full(rt: HostRuntime) {
         let mut slots: [Slot<LastDigit>; 0] = [];
         clear(&mut slots);
-        assert_eq!(rt; told(insert(&mut slots, digit(1), 1)), 2000);
+        assert_eq!(rt; insert(&mut slots, digit(1), 1), Err(InsertError::Full));
         assert_eq!(rt; find(&slots, &digit(1)), None);
     }
 
-    // Texts, and where the expression at their start ends; `NONE` where there is none.
-    const NONE: usize = 1000;
-
-    static EXPRESSIONS: [(&'static [u8], usize); 20] = [
-        (b"a", 1),
-        (b"a-1 b", 3),
-        (b"~plate)", 6),
-        (b"1a", 2),
-        (b"(alt a ~b)", 10),
-        (b"(seq a (all b c) d) e", 19),
-        (b"(all a b c d e f g h)", 21),
-        (b"(all a b c d e f g h i)", NONE),
-        (b"(alt a)", NONE),
-        (b"(alt)", NONE),
-        (b"(any a b)", NONE),
-        (b"(alt  a b)", NONE),
-        (b"( alt a b)", NONE),
-        (b"(alt a b )", NONE),
-        (b"(alt a b", NONE),
-        (b"~", NONE),
-        (b"~~a", NONE),
-        (b"", NONE),
+    // Texts, and where the expression at their start ends; absent where there is none.
+    static EXPRESSIONS: [(&'static [u8], Option<usize>); 20] = [
+        (b"a", Some(1)),
+        (b"a-1 b", Some(3)),
+        (b"~plate)", Some(6)),
+        (b"1a", Some(2)),
+        (b"(alt a ~b)", Some(10)),
+        (b"(seq a (all b c) d) e", Some(19)),
+        (b"(all a b c d e f g h)", Some(21)),
+        (b"(all a b c d e f g h i)", None),
+        (b"(alt a)", None),
+        (b"(alt)", None),
+        (b"(any a b)", None),
+        (b"(alt  a b)", None),
+        (b"( alt a b)", None),
+        (b"(alt a b )", None),
+        (b"(alt a b", None),
+        (b"~", None),
+        (b"~~a", None),
+        (b"", None),
         (
             b"(alt a (alt a (alt a (alt a (alt a (alt a (alt a (alt a a))))))))",
-            65,
+            Some(65),
         ),
         (
             b"(alt a (alt a (alt a (alt a (alt a (alt a (alt a (alt a (alt a a)))))))))",
-            NONE,
+            None,
         ),
     ];
 
     #[test]
     fn expressions_end_where_they_end(rt: HostRuntime) {
         for (text, end) in EXPRESSIONS.iter() {
-            match expr_end(text, 0, true) {
-                Ok(found) => assert_eq!(rt; found, *end),
-                Err(_) => assert_eq!(rt; NONE, *end),
-            }
+            assert_eq!(rt; expr_end(text, 0, true).ok(), *end);
         }
     }
 }

@@ -9,11 +9,7 @@ mod tests {
     use std::test::Fail;
 
     fn joined(heap: Global, parts: &[&[u8]]) -> Result<Vec<u8>, AllocError> {
-        let mut file = Vec::new(heap);
-        for part in parts {
-            file.extend_from_slice(part)?;
-        }
-        Ok(file)
+        parts.concat(heap)
     }
 
     // How many events, named by letters from a on, then rules of eight leaves, then rules of one leaf;
@@ -230,11 +226,8 @@ mod tests {
     // The file of a row that has so many bytes.
     fn filled(heap: Global, row: &Filled, length: usize) -> Result<Vec<u8>, AllocError> {
         let (start, byte, end, _) = *row;
-        let count = length.saturating_sub(start.len()).saturating_sub(end.len());
         let mut file = Vec::from_slice(heap, start)?;
-        for _ in 0..count {
-            file.push(byte)?;
-        }
+        file.resize(length.saturating_sub(end.len()), byte)?;
         file.extend_from_slice(end)?;
         Ok(file)
     }

@@ -3,118 +3,117 @@
 // and brackets, has to be what these words give when they are written out again, and is then judged by
 // its words.
 use super::said::Said;
-use std::alloc::{AllocError, Global};
+use std::alloc::{AllocError, AllocFailed, Global};
 
 type Words = Vec<Vec<u8>>;
+
+const OPEN: &[u8] = b"(";
+
+const CLOSE: &[u8] = b")";
+
+// What is wrong with a line, by its number.
+#[derive(Clone, Copy)]
+enum Fault {
+    Byte = 2,
+    Shape = 3,
+    Name = 4,
+    Twice = 5,
+    Undeclared = 6,
+    TooMany = 7,
+}
+
+// Why a line is not taken: it is faulty, or there is no memory for it.
+#[derive(Drop)]
+enum Stop {
+    Faulty(Fault),
+    Memory(AllocError),
+}
+
+impl From<Fault> for Stop {
+    fn from(fault: Fault) -> Stop {
+        Stop::Faulty(fault)
+    }
+}
+
+impl From<AllocError> for Stop {
+    fn from(error: AllocError) -> Stop {
+        Stop::Memory(error)
+    }
+}
+
+impl<T: Drop> From<AllocFailed<T>> for Stop {
+    fn from(error: AllocFailed<T>) -> Stop {
+        Stop::Memory(error.into())
+    }
+}
 
 // What the lines before declare and state.
 #[derive(Drop)]
 struct Seen {
     names: Words,
-    // At most 12.
-    events: u8,
     // At most 16.
-    rules: u8,
+    rules: usize,
     // At most 64.
-    leaves: u8,
-}
-
-fn same(a: &[u8], b: &[u8]) -> bool {
-    a == b
-}
-
-fn is_in(word: &[u8], words: &[&[u8]]) -> bool {
-    for other in words {
-        if same(word, other) {
-            return true;
-        }
-    }
-    false
-}
-
-fn is_letter(byte: u8) -> bool {
-    byte >= b'a' && byte <= b'z'
+    leaves: usize,
 }
 
 fn is_run_byte(byte: u8) -> bool {
-    is_letter(byte) || (byte >= b'0' && byte <= b'9') || byte == b'-'
+    matches!(byte, b'a'..=b'z' | b'0'..=b'9' | b'-')
 }
 
 fn is_bracket(byte: u8) -> bool {
-    byte == b'(' || byte == b')'
+    matches!(byte, b'(' | b')')
 }
 
 fn is_flow_byte(byte: u8) -> bool {
-    is_run_byte(byte) || is_bracket(byte) || byte == b'~' || byte == b' '
-}
-
-fn has_flow_bytes(line: &[u8]) -> bool {
-    for byte in line {
-        if !is_flow_byte(*byte) {
-            return false;
-        }
-    }
-    true
+    is_run_byte(byte) || is_bracket(byte) || matches!(byte, b'~' | b' ')
 }
 
 // Whether a word is a run of letters, digits and hyphens.
 fn is_run(word: &[u8]) -> bool {
-    for byte in word {
-        if !is_run_byte(*byte) {
-            return false;
-        }
-    }
-    !word.is_empty()
-}
-
-// What stands behind the `~` of a word; absent if it does not begin so.
-fn behind_tilde<'a>(word: &'a [u8]) -> Option<&'a [u8]> {
-    match word.split_first() {
-        None => None,
-        Some((first, rest)) => { if *first == b'~' { Some(rest) } else { None } }
-    }
+    !word.is_empty() && word.iter().all(|byte| is_run_byte(*byte))
 }
 
 fn is_leaf(word: &[u8]) -> bool {
-    match behind_tilde(word) {
-        None => is_run(word),
-        Some(rest) => is_run(rest),
-    }
+    is_run(word.strip_prefix(b"~").unwrap_or(word))
+}
+
+fn is_in(word: &[u8], words: &[&[u8]]) -> bool {
+    words.iter().any(|other| *other == word)
 }
 
 // The name in a leaf; absent if the leaf is `yes` or `no`.
-fn name_in<'a>(leaf: &'a [u8]) -> Option<&'a [u8]> {
-    match behind_tilde(leaf) {
-        Some(rest) => Some(rest),
-        None => {
-            if is_in(leaf, &[b"yes", b"no"]) {
-                None
-            } else {
-                Some(leaf)
-            }
-        }
+fn name_in(leaf: &[u8]) -> Option<&[u8]> {
+    if is_in(leaf, &[b"yes", b"no"]) {
+        return None;
     }
+    Some(leaf.strip_prefix(b"~").unwrap_or(leaf))
 }
 
 fn is_reserved(word: &[u8]) -> bool {
     is_in(
         word,
-        &[b"event", b"rule", b"alt", b"all", b"seq", b"yes", b"no"],
-    ) || is_in(
-        word,
-        &[b"flexible", b"inevitable", b"immediate", b"forcible"],
+        &[
+            b"event",
+            b"rule",
+            b"alt",
+            b"all",
+            b"seq",
+            b"yes",
+            b"no",
+            b"flexible",
+            b"inevitable",
+            b"immediate",
+            b"forcible",
+        ],
     )
 }
 
-fn begins_with_letter(word: &[u8]) -> bool {
-    match word.first() {
-        None => false,
-        Some(byte) => is_letter(*byte),
-    }
-}
-
 fn is_name(word: &[u8]) -> bool {
-    word.len() <= 16 && begins_with_letter(word) && is_run(word) && !is_reserved(word)
+    matches!(word.first(), Some(b'a'..=b'z'))
+        && word.len() <= 16
+        && is_run(word)
+        && !is_reserved(word)
 }
 
 fn add(words: &mut Words, heap: Global, word: &[u8]) -> Result<(), AllocError> {
@@ -149,187 +148,165 @@ fn line_of(heap: Global, words: &[Vec<u8>]) -> Result<Vec<u8>, AllocError> {
     let mut tight = true;
     for word in words {
         let word = word.as_slice();
-        if !tight && !same(word, b")") {
+        if !tight && word != CLOSE {
             line.push(b' ')?;
         }
         line.extend_from_slice(word)?;
-        tight = same(word, b"(");
+        tight = word == OPEN;
     }
     Ok(line)
 }
 
-// A word by its number; empty if there are no more.
-fn word_at<'a>(words: &'a [Vec<u8>], number: usize) -> &'a [u8] {
-    match words.get(number) {
-        None => b"",
-        Some(word) => word.as_slice(),
-    }
-}
-
-fn is_word_at(words: &[Vec<u8>], number: usize, word: &[u8]) -> bool {
-    same(word_at(words, number), word)
-}
-
-fn is_event(words: &[Vec<u8>]) -> bool {
-    let ends = (words.len() == 5 && is_word_at(words, 4, b")"))
-        || (words.len() == 6 && is_word_at(words, 4, b"forcible") && is_word_at(words, 5, b")"));
-    ends && is_word_at(words, 0, b"(")
-        && is_word_at(words, 1, b"event")
-        && is_run(word_at(words, 2))
+// The name of the event that some words declare; absent if they declare none.
+fn declared(words: &[Vec<u8>]) -> Option<&[u8]> {
+    let (open, event, name, grade, end) = match words {
+        [open, event, name, grade, close] => (open, event, name, grade, close),
+        [open, event, name, grade, forcible, close]
+            if forcible.as_slice() == b"forcible".as_slice() => {
+            (open, event, name, grade, close)
+        }
+        _ => return None,
+    };
+    let name = name.as_slice();
+    let is_event = open.as_slice() == OPEN
+        && event.as_slice() == b"event".as_slice()
+        && is_run(name)
         && is_in(
-            word_at(words, 3),
+            grade.as_slice(),
             &[b"flexible", b"inevitable", b"immediate"],
         )
+        && end.as_slice() == CLOSE;
+    is_event.then_some(name)
 }
 
 // Counts one member more in the innermost of the open forms.
 pub fn count(open: &mut Vec<u8>) -> Result<(), AllocError> {
-    match open.pop() {
-        None => Ok(()),
-        Some(members) => {
-            open.push(members.saturating_add(1))?;
-            Ok(())
-        }
+    if let Some(members) = open.pop() {
+        open.push(members.saturating_add(1))?;
     }
+    Ok(())
 }
 
-// The leaves of a rule's line, in their order; absent if the words are no rule. The open forms are kept
-// with the number of their members so far, the line's own first, which has one.
-fn leaves_in(heap: Global, words: &[Vec<u8>]) -> Result<Option<Words>, AllocError> {
+// The leaves of a rule's line, in their order. The open forms are kept with the number of their members so
+// far, the line's own first, which has one.
+fn leaves_in(heap: Global, words: &[Vec<u8>]) -> Result<Words, Stop> {
+    let [bracket, rule, inner @ ..] = words else {
+        return Err(Fault::Shape.into());
+    };
+    if bracket.as_slice() != OPEN || rule.as_slice() != b"rule".as_slice() {
+        return Err(Fault::Shape.into());
+    }
     let mut leaves = Vec::new(heap);
     let mut open = Vec::new(heap);
-    for (number, word) in words.iter().enumerate() {
+    open.push(0)?;
+    let mut before = rule.as_slice();
+    for word in inner {
         let word = word.as_slice();
-        if number == 0 {
-            if !same(word, b"(") {
-                return Ok(None);
+        if open.is_empty() {
+            return Err(Fault::Shape.into());
+        }
+        if before == OPEN {
+            if !is_in(word, &[b"alt", b"all", b"seq"]) {
+                return Err(Fault::Shape.into());
             }
+        } else if word == OPEN {
             open.push(0)?;
-        } else if number == 1 {
-            if !same(word, b"rule") {
-                return Ok(None);
+            if open.len() > 9 {
+                return Err(Fault::Shape.into());
             }
-        } else if open.is_empty() {
-            return Ok(None);
-        } else if same(word, b"(") {
-            open.push(0)?;
-            if open.len() > 9
-                || !is_in(
-                    word_at(words, number.saturating_add(1)),
-                    &[b"alt", b"all", b"seq"],
-                )
-            {
-                return Ok(None);
-            }
-        } else if same(word, b")") {
+        } else if word == CLOSE {
             let members = open.pop().unwrap_or(0);
-            let least = if open.is_empty() { 1 } else { 2 };
-            let most = if open.is_empty() { 1 } else { 8 };
-            if members < least || members > most {
-                return Ok(None);
+            let fits = if open.is_empty() {
+                members == 1
+            } else {
+                matches!(members, 2..=8)
+            };
+            if !fits {
+                return Err(Fault::Shape.into());
             }
             count(&mut open)?;
-        } else if is_word_at(words, number.saturating_sub(1), b"(") {
-            // A head, which was looked at with its bracket.
         } else if is_leaf(word) {
             add(&mut leaves, heap, word)?;
             count(&mut open)?;
         } else {
-            return Ok(None);
+            return Err(Fault::Shape.into());
         }
+        before = word;
     }
-    if open.is_empty() && !words.is_empty() {
-        Ok(Some(leaves))
-    } else {
-        Ok(None)
+    if !open.is_empty() {
+        return Err(Fault::Shape.into());
     }
+    Ok(leaves)
 }
 
 impl Seen {
-    fn has(&self, name: &[u8]) -> bool {
-        for other in self.names.as_slice() {
-            if same(name, other.as_slice()) {
-                return true;
-            }
+    fn nothing(heap: Global) -> Seen {
+        Seen {
+            names: Vec::new(heap),
+            rules: 0,
+            leaves: 0,
         }
-        false
     }
 
-    // Declares an event; gives the number of its fault, or 0.
-    fn event_fault(&mut self, heap: Global, name: &[u8]) -> Result<u8, AllocError> {
+    fn has(&self, name: &[u8]) -> bool {
+        self.names.iter().any(|other| other.as_slice() == name)
+    }
+
+    // Declares an event.
+    fn declare(&mut self, heap: Global, name: &[u8]) -> Result<(), Stop> {
         if self.rules > 0 {
-            return Ok(3);
+            return Err(Fault::Shape.into());
         }
         if !is_name(name) {
-            return Ok(4);
+            return Err(Fault::Name.into());
         }
         if self.has(name) {
-            return Ok(5);
+            return Err(Fault::Twice.into());
         }
-        if self.events >= 12 {
-            return Ok(7);
+        if self.names.len() >= 12 {
+            return Err(Fault::TooMany.into());
         }
         add(&mut self.names, heap, name)?;
-        self.events = self.events.saturating_add(1);
-        Ok(0)
+        Ok(())
     }
 
-    // The lowest number of the leaves' faults by their names, or 0.
-    fn naming_fault(&self, leaves: &[Vec<u8>]) -> u8 {
-        let mut lowest = 0;
-        for leaf in leaves {
-            match name_in(leaf.as_slice()) {
-                None => {}
-                Some(name) => {
-                    if !is_name(name) {
-                        return 4;
-                    }
-                    if !self.has(name) {
-                        lowest = 6;
-                    }
-                }
-            }
+    // States a rule with these leaves.
+    fn state(&mut self, leaves: &[Vec<u8>]) -> Result<(), Fault> {
+        if self.names.is_empty() {
+            return Err(Fault::Shape);
         }
-        lowest
-    }
-
-    // States a rule; gives the number of its fault, or 0.
-    fn rule_fault(&mut self, leaves: &[Vec<u8>]) -> u8 {
-        if self.events == 0 {
-            return 3;
+        let mut names = leaves.iter().filter_map(|leaf| name_in(leaf.as_slice()));
+        if !names.all(is_name) {
+            return Err(Fault::Name);
         }
-        let fault = self.naming_fault(leaves);
-        if fault > 0 {
-            return fault;
+        let mut names = leaves.iter().filter_map(|leaf| name_in(leaf.as_slice()));
+        if !names.all(|name| self.has(name)) {
+            return Err(Fault::Undeclared);
         }
-        let mut sum = self.leaves;
-        for _ in leaves {
-            sum = sum.saturating_add(1);
-        }
+        let sum = self.leaves.saturating_add(leaves.len());
         if self.rules >= 16 || sum > 64 {
-            return 7;
+            return Err(Fault::TooMany);
         }
         self.rules = self.rules.saturating_add(1);
         self.leaves = sum;
-        0
+        Ok(())
     }
 
-    // Takes a line; gives the lowest number of its faults, or 0.
-    fn fault(&mut self, heap: Global, line: &[u8], ended: bool) -> Result<u8, AllocError> {
-        if !has_flow_bytes(line) {
-            return Ok(2);
+    // Takes a line, with its line feed if it has one; gives the fault of the lowest number.
+    fn take(&mut self, heap: Global, line: &[u8]) -> Result<(), Stop> {
+        let ended = line.strip_suffix(b"\n");
+        let text = ended.unwrap_or(line);
+        if !text.iter().all(|byte| is_flow_byte(*byte)) {
+            return Err(Fault::Byte.into());
         }
-        let words = words_in(heap, line)?;
+        let words = words_in(heap, text)?;
         let again = line_of(heap, words.as_slice())?;
-        if !ended || !same(again.as_slice(), line) {
-            return Ok(3);
+        if ended.is_none() || again.as_slice() != text {
+            return Err(Fault::Shape.into());
         }
-        if is_event(words.as_slice()) {
-            return self.event_fault(heap, word_at(words.as_slice(), 2));
-        }
-        match leaves_in(heap, words.as_slice())? {
-            None => Ok(3),
-            Some(leaves) => Ok(self.rule_fault(leaves.as_slice())),
+        match declared(words.as_slice()) {
+            Some(name) => self.declare(heap, name),
+            None => Ok(self.state(leaves_in(heap, words.as_slice())?.as_slice())?),
         }
     }
 }
@@ -339,29 +316,19 @@ pub fn judged_again(heap: Global, file: &[u8]) -> Result<Said, AllocError> {
     if file.len() > 16_384 {
         return Ok(Said::Refused(1, 0));
     }
-    let mut seen = Seen {
-        names: Vec::new(heap),
-        events: 0,
-        rules: 0,
-        leaves: 0,
-    };
-    let mut number: usize = 1;
-    let mut line = Vec::new(heap);
-    for byte in file {
-        if *byte == b'\n' {
-            let fault = seen.fault(heap, line.as_slice(), true)?;
-            if fault > 0 {
-                return Ok(Said::Refused(fault, number));
+    // An empty file has one line, which is empty.
+    if file.is_empty() {
+        return Ok(Said::Refused(3, 1));
+    }
+    let mut seen = Seen::nothing(heap);
+    for (above, line) in file.split_inclusive(|byte| *byte == b'\n').enumerate() {
+        match seen.take(heap, line) {
+            Ok(()) => {}
+            Err(Stop::Faulty(fault)) => {
+                return Ok(Said::Refused(fault as u8, above.saturating_add(1)));
             }
-            number = number.saturating_add(1);
-            line.clear();
-        } else {
-            line.push(*byte)?;
+            Err(Stop::Memory(error)) => return Err(error),
         }
     }
-    if file.is_empty() || !line.is_empty() {
-        let fault = seen.fault(heap, line.as_slice(), false)?;
-        return Ok(Said::Refused(fault, number));
-    }
-    Ok(Said::Taken(seen.events, seen.rules, seen.leaves))
+    Ok(Said::Taken(seen.names.len(), seen.rules, seen.leaves))
 }

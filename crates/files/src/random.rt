@@ -68,6 +68,20 @@ static PIECES: [&'static [u8]; 16] = [
 
 static BYTES: &'static [u8] = b"abcabzlo019--~~(()) \n A\t\xff";
 
+// The events of a file: so many names from the one of this number on, around the end.
+#[derive(Clone, Copy)]
+struct Cast {
+    first: usize,
+    // At most 13.
+    events: usize,
+}
+
+impl Cast {
+    fn name(self, event: usize) -> &'static [u8] {
+        NAMES[self.first.saturating_add(event) % 16]
+    }
+}
+
 impl Dice {
     fn roll(&mut self) -> u64 {
         let mut x = self.state;
@@ -94,34 +108,30 @@ impl Dice {
 
     fn pick<'a>(&mut self, words: &[&'a [u8]]) -> &'a [u8] {
         let number = self.below(words.len());
-        nth(words, number)
+        words.get(number).copied().unwrap_or(b"a")
     }
 
     fn byte(&mut self) -> u8 {
         let number = self.below(BYTES.len());
-        match BYTES.get(number) {
-            None => b'a',
-            Some(byte) => *byte,
-        }
+        BYTES.get(number).copied().unwrap_or(b'a')
     }
 
-    // The name of one of some events, whose first has this number among the names; now and then another.
-    fn name(&mut self, first: usize, events: usize) -> &'static [u8] {
+    // The name of an event of a file; now and then another.
+    fn name(&mut self, cast: Cast) -> &'static [u8] {
         if self.once_in(120) {
             return self.pick(&OTHERS);
         }
-        let number = self.below(events);
-        nth(&NAMES, first.saturating_add(number) % 16)
+        cast.name(self.below(cast.events))
     }
 
-    fn leaf(&mut self, file: &mut Vec<u8>, first: usize, events: usize) -> Result<(), AllocError> {
+    fn leaf(&mut self, file: &mut Vec<u8>, cast: Cast) -> Result<(), AllocError> {
         if self.once_in(8) {
             let constant: &[u8] = if self.once_in(2) { b" yes" } else { b" no" };
             return file.extend_from_slice(constant);
         }
         let tilde: &[u8] = if self.once_in(3) { b" ~" } else { b" " };
         file.extend_from_slice(tilde)?;
-        file.extend_from_slice(self.name(first, events))
+        file.extend_from_slice(self.name(cast))
     }
 
     // Whether to close a form that has so many members, where so many leaves are still wanted.
@@ -137,8 +147,7 @@ impl Dice {
         &mut self,
         heap: Global,
         file: &mut Vec<u8>,
-        first: usize,
-        events: usize,
+        cast: Cast,
     ) -> Result<(), AllocError> {
         let mut left = self.below(18);
         let closing = self.below(12).saturating_add(2);
@@ -159,7 +168,7 @@ impl Dice {
                 file.extend_from_slice(head)?;
                 open.push(0)?;
             } else {
-                self.leaf(file, first, events)?;
+                self.leaf(file, cast)?;
                 count(&mut open)?;
                 left = left.saturating_sub(1);
             }
@@ -168,13 +177,13 @@ impl Dice {
     }
 
     // Adds an event line, which is mostly right.
-    fn event(&mut self, file: &mut Vec<u8>, number: usize) -> Result<(), AllocError> {
+    fn event(&mut self, file: &mut Vec<u8>, own: &[u8]) -> Result<(), AllocError> {
         let name = if self.once_in(150) {
             self.pick(&OTHERS)
         } else if self.once_in(60) {
             self.pick(&NAMES)
         } else {
-            nth(&NAMES, number % 16)
+            own
         };
         let grade = self.pick(&GRADES);
         let end: &[u8] = if self.once_in(3) {
@@ -198,8 +207,9 @@ impl Dice {
             self.below(most).saturating_add(1)
         };
         let first = self.below(16);
-        for number in 0..events {
-            self.event(&mut file, first.saturating_add(number))?;
+        let cast = Cast { first, events };
+        for event in 0..events {
+            self.event(&mut file, cast.name(event))?;
         }
         let is_full = self.once_in(8);
         let rules = if is_full {
@@ -210,9 +220,9 @@ impl Dice {
         for _ in 0..rules {
             file.extend_from_slice(b"(rule")?;
             if is_full {
-                self.leaf(&mut file, first, events)?;
+                self.leaf(&mut file, cast)?;
             } else {
-                self.expression(heap, &mut file, first, events)?;
+                self.expression(heap, &mut file, cast)?;
             }
             file.extend_from_slice(b")\n")?;
         }
@@ -278,19 +288,13 @@ impl Dice {
     }
 }
 
-fn nth<'a>(words: &[&'a [u8]], number: usize) -> &'a [u8] {
-    match words.get(number) {
-        None => b"a",
-        Some(word) => word,
-    }
-}
-
 mod tests {
     use super::Dice;
     use crate::naive::judged_again;
     use crate::said::{Said, judged};
     use std::test::Fail;
 
+    // The number of a refusal, and 0 of a flow.
     fn number(said: Said) -> u8 {
         match said {
             Said::Taken(_, _, _) => 0,

@@ -7,7 +7,7 @@ use std::test::Fail;
 #[derive(Clone, Copy, PartialEq, Eq, Debug)]
 pub enum Said {
     // It is a flow's, with so many events, rules and leaves.
-    Taken(u8, u8, u8),
+    Taken(usize, usize, usize),
     // It is refused, with this number, at this line.
     Refused(u8, usize),
 }
@@ -17,7 +17,7 @@ fn is_reader_of(reader: Reader, number: u8) -> bool {
     match reader {
         Reader::Bytes => number == 2,
         Reader::Forms => number == 3,
-        Reader::Flow => number == 1 || (number >= 4 && number <= 7),
+        Reader::Flow => matches!(number, 1 | 4..=7),
     }
 }
 
@@ -39,7 +39,11 @@ fn reader_fits(rt: &impl Abort, refusal: Refusal) {
 // What `accept::check` says of a file. The reader that it names has to be that of the number.
 pub fn judged(rt: &impl Abort, file: &[u8]) -> Result<Said, Fail> {
     match accept::check(file) {
-        Ok(summary) => Ok(Taken(summary.events, summary.rules, summary.leaves)),
+        Ok(summary) => Ok(Taken(
+            usize::from(summary.events),
+            usize::from(summary.rules),
+            usize::from(summary.leaves),
+        )),
         Err(refusal) => {
             reader_fits(rt, refusal);
             Ok(Refused(refusal.number(), refusal.line()))

@@ -9,7 +9,7 @@ mod tests {
     use std::test::Fail;
 
     // The words, what is printed of them, and what is said of the first that is refused.
-    type Told = (&'static [&'static str], &'static str, &'static str);
+    type Told = (&'static [&'static str], &'static str, Option<&'static str>);
 
     static PLATE: [u8; 90] =
         *b"(event approve inevitable)\n(event plate flexible)\n(rule (alt ~plate (seq approve plate)))\n";
@@ -18,33 +18,32 @@ mod tests {
         (
             &["approve", "plate"],
             "(left 2 2 0)\n(left 10 6 1)\n(rule 0 fulfilled)\n",
-            "",
+            None,
         ),
-        (&["plate"], "(left 8 0 5)\n(rule 0 unfulfilled)\n", ""),
-        (&[], "(rule 0 unfulfilled)\n", ""),
+        (&["plate"], "(left 8 0 5)\n(rule 0 unfulfilled)\n", None),
+        (&[], "(rule 0 unfulfilled)\n", None),
         (
             &["approve", "print"],
             "(left 2 2 0)\n(refused print)\n",
-            "the flow has no event for 'print'",
+            Some("the flow has no event for 'print'"),
         ),
         (
             &["~plate", "approve", "plate"],
             "(left 12 1 4)\n(left 14 3 4)\n(refused plate)\n",
-            "the event of 'plate' came before",
+            Some("the event of 'plate' came before"),
         ),
         (
             &["~~plate"],
             "(refused ~~plate)\n",
-            "the flow has no event for '~~plate'",
+            Some("the flow has no event for '~~plate'"),
         ),
     ];
 
     fn words_of(heap: Global, texts: &[&str]) -> Result<Vec<String>, AllocError> {
-        let mut words = Vec::new(heap);
-        for text in texts {
-            words.push(String::from_str(heap, text)?)?;
-        }
-        Ok(words)
+        texts
+            .iter()
+            .map(|text| String::from_str(heap, text))
+            .try_collect(heap)
     }
 
     fn told_holds(rt: &impl Abort, heap: Global, told: &Told) -> Result<(), Fail> {
@@ -54,16 +53,9 @@ mod tests {
         let words = words_of(heap, words)?;
         let report = left(heap, &flow, words.as_slice())?;
         assert!(rt; report.text.as_str() == printed);
-        match explain_words(heap, report.outcome, words.as_slice())? {
-            None => {
-                assert!(rt; refused == "");
-                Ok(())
-            }
-            Some(message) => {
-                assert!(rt; message.as_str() == refused);
-                Ok(())
-            }
-        }
+        let said = explain_words(heap, report.outcome, words.as_slice())?;
+        assert_eq!(rt; said.as_deref(), refused);
+        Ok(())
     }
 
     #[test]
@@ -75,33 +67,35 @@ mod tests {
     }
 
     // A file, what is printed of it, and what is said of it if it is refused.
-    type Checked = (&'static [u8], &'static str, &'static str);
+    type Checked = (&'static [u8], &'static str, Option<&'static str>);
 
     static CHECKED: [Checked; 5] = [
         (
             b"(event approve inevitable)\n(event plate flexible)\n(rule (alt ~plate (seq approve plate)))\n",
             "(flow 2 1 3)\n",
-            "",
+            None,
         ),
         (
             b"(event Plate flexible)\n",
             "(refused 2 1 bytes)\n",
-            "line 1: it has a byte that stands in no flow file: (event Plate flexible)",
+            Some("line 1: it has a byte that stands in no flow file: (event Plate flexible)"),
         ),
         (
             b"(event plate)\n",
             "(refused 3 1 forms)\n",
-            "line 1: it has not the form of an event or a rule that may come there: (event plate)",
+            Some(
+                "line 1: it has not the form of an event or a rule that may come there: (event plate)",
+            ),
         ),
         (
             b"(event plate flexible)\n(rule approve)\n",
             "(refused 6 2 flow)\n",
-            "line 2: a name in it is not declared above: (rule approve)",
+            Some("line 2: a name in it is not declared above: (rule approve)"),
         ),
         (
             b"(event \xff flexible)\n",
             "(refused 2 1 bytes)\n",
-            "line 1: it has a byte that stands in no flow file: (event ? flexible)",
+            Some("line 1: it has a byte that stands in no flow file: (event ? flexible)"),
         ),
     ];
 
@@ -110,27 +104,23 @@ mod tests {
         heap: Global,
         file: &[u8],
         printed: &str,
-        said: &str,
+        said: Option<&str>,
     ) -> Result<(), Fail> {
         let outcome = accept::check(file);
         assert!(rt; checked(heap, outcome)?.as_str() == printed);
-        match outcome {
-            Ok(_) => {
-                assert!(rt; said == "");
-                Ok(())
-            }
-            Err(refusal) => {
-                assert!(rt; refused(heap, refusal)?.as_str() == printed);
-                assert!(rt; explain_file(heap, refusal, file)?.as_str() == said);
-                Ok(())
-            }
-        }
+        let Err(refusal) = outcome else {
+            assert!(rt; said.is_none());
+            return Ok(());
+        };
+        assert!(rt; refused(heap, refusal)?.as_str() == printed);
+        assert_eq!(rt; Some(explain_file(heap, refusal, file)?.as_str()), said);
+        Ok(())
     }
 
     #[test]
     fn files_are_told(rt: HostRuntime) -> Result<(), Fail> {
         for (file, printed, said) in CHECKED.iter() {
-            checked_holds(&rt, rt.alloc(), file, printed, said)?;
+            checked_holds(&rt, rt.alloc(), file, printed, *said)?;
         }
         let long = vec![in rt.alloc(); b'a'; 16_385]?;
         checked_holds(
@@ -138,7 +128,7 @@ mod tests {
             rt.alloc(),
             long.as_slice(),
             "(refused 1 0 flow)\n",
-            "the flow file is longer than 16384 bytes",
+            Some("the flow file is longer than 16384 bytes"),
         )
     }
 }
