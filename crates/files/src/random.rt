@@ -71,6 +71,7 @@ static BYTES: &'static [u8] = b"abcabzlo019--~~(()) \n A\t\xff";
 // The events of a file: so many names from the one of this number on, around the end.
 #[derive(Clone, Copy)]
 struct Cast {
+    // At most 15.
     first: usize,
     // At most 13.
     events: usize,
