@@ -8,9 +8,9 @@ use Rattle.text.specs.Words as token
 use Rattle.forms.specs.Forms.{Form, plain, never, group, Chain, last, more, words, chain}
 use Rattle.accept.specs.declared.names.EventNames.{EventNames}
 use Rattle.accept.specs.declared.counts.Tally.{Tally}
-use Rattle.refusals.specs.declared.refusal.Fault.TheVariants.{Undeclared, TooMany}
+use Rattle.refusals.specs.declared.refusal.Fault.TheVariants.{TooMany}
 use Rattle.accept.specs.Drafts.{IsName, Names, Leaf, bare, negated, leaves, leaves_of, LeafName}
-use Rattle.accept.specs.Tallies.{known, Constant, Mentions, leaves_in, Tallied, Naming, WellNamed, AllKnown, Judged}
+use Rattle.accept.specs.Tallies.{known, Constant, Mentions, leaves_in, Tallied, Naming, Lowest, WellNamed, AllKnown, Judged}
 
 pub when_cases : {P Q : Type 0} (b : Bool) → MatchBool b P Q → ((b ≡ true) × P) ⊎ ((b ≡ false) × Q)
 when_cases true p = inl (refl, p)
@@ -115,15 +115,9 @@ module _ (s : EventNames) (f : Form) (t : Tally) (h : Tallied s (leaves f) t) wh
   all_known : t.undeclared ≡ false → AllKnown s f
   all_known e = ⊎_elim (λ p. absurd (false≢true (sym e ∙ p.0))) (λ p. p.1) (when_cases t.undeclared h.undeclared)
 
-  unknown_one : t.undeclared ≡ true → (n : List ℕ) × Names f n × (known s n ≡ None)
-  unknown_one e = ⊎_elim (λ p. p.1) (λ p. absurd (false≢true (sym p.0 ∙ e))) (when_cases t.undeclared h.undeclared)
+  module _ (rs ls : ℕ) where
+    pub judged_crowded : Lowest t (Ok tt) → (16 ≤ rs) ⊎ (64 < ls + t.leaves) → Judged s f rs ls (Err TooMany)
+    judged_crowded low much = (well_named low.0, all_known low.1, ⊎_elim (λ q. inl q) (λ q. inr (subst (λ n. 64 < ls + n) h.leaves q)) much)
 
-  module _ (rs ls : ℕ) (named : t.misnamed ≡ false) where
-    pub judged_undeclared : t.undeclared ≡ true → Judged s f rs ls (Err Undeclared)
-    judged_undeclared unknown = (well_named named, unknown_one unknown)
-
-    pub judged_crowded : t.undeclared ≡ false → (16 ≤ rs) ⊎ (64 < ls + t.leaves) → Judged s f rs ls (Err TooMany)
-    judged_crowded all much = (well_named named, all_known all, ⊎_elim (λ q. inl q) (λ q. inr (subst (λ n. 64 < ls + n) h.leaves q)) much)
-
-    pub judged_fine : t.undeclared ≡ false → (rs < 16) × (ls + t.leaves ≤ 64) → Judged s f rs ls (Ok (ls + t.leaves))
-    judged_fine all fits = (well_named named, all_known all, fits.0, fits.1, ap (λ n. ls + n) h.leaves)
+    pub judged_fine : Lowest t (Ok tt) → (rs < 16) × (ls + t.leaves ≤ 64) → Judged s f rs ls (Ok (ls + t.leaves))
+    judged_fine low fits = (well_named low.0, all_known low.1, fits.0, fits.1, ap (λ n. ls + n) h.leaves)

@@ -6,6 +6,7 @@
 --     leaves_in tight ts            the leaves among the tokens ts
 --     Tallied s ls t                the tally t is that of the leaves ls
 --     Naming s n t u                u is the tally t with one leaf more, which names the event n
+--     Lowest t r                    r is the fault of the lowest number that the names have, by the tally t
 --     WellNamed s f, AllKnown s f   each name in the rule f is a name; each is that of an event, among the names s
 --     Judged s f rules leaves r     r says how many leaves there are with those of the rule f, which follows so many rules and
 --                                   leaves, or the fault of the lowest number from 4 on that it has
@@ -50,6 +51,15 @@ pub record Naming (s : EventNames) (n : List ℕ) (t u : Tally) : Type 0 where
   pub leaves : u.leaves ≡ t.leaves + 1
   pub misnamed : ((IsName n → ⊥) × (u.misnamed ≡ true)) ⊎ (IsName n × (u.misnamed ≡ t.misnamed))
   pub undeclared : ((known s n ≡ None) × (u.undeclared ≡ true)) ⊎ ((known s n ≢ None) × (u.undeclared ≡ t.undeclared))
+
+abbrev pub Lowest : Tally → Result (Unit {0}) Fault → Type 0
+Lowest t (Ok done) = (t.misnamed ≡ false) × (t.undeclared ≡ false)
+Lowest t (Err Byte) = ⊥
+Lowest t (Err Shape) = ⊥
+Lowest t (Err Name) = t.misnamed ≡ true
+Lowest t (Err Twice) = ⊥
+Lowest t (Err Undeclared) = (t.misnamed ≡ false) × (t.undeclared ≡ true)
+Lowest t (Err TooMany) = ⊥
 
 module _ (s : EventNames) (f : Form) where
   abbrev pub WellNamed : Type 0

@@ -4,7 +4,7 @@ ghost use Rattle.text.specs.Words.{closes, token_of, is_open};
 ghost use Rattle.forms.specs.Forms.{Form, words};
 ghost use Rattle.forms.specs.Reads.{Left};
 ghost use Rattle.accept.specs.Drafts.{Leaf as LeafOf, leaves as leaves_of};
-ghost use Rattle.accept.specs.Tallies.{Constant, leaf_of, Naming, Tallied, Judged};
+ghost use Rattle.accept.specs.Tallies.{Constant, leaf_of, Naming, Tallied, Lowest, Judged};
 
 use super::counts::{Progress, Tally};
 use super::name::is_name;
@@ -52,6 +52,19 @@ impl Tally {
             Word::Name(name) => self.naming(name, names),
         }
     }
+
+    // The fault of the lowest number that the names have.
+    fn lowest(self) -> Result<(), Fault>
+        ensures { Lowest self result }
+    {
+        if self.misnamed {
+            return Err(Fault::Name);
+        }
+        if self.undeclared {
+            return Err(Fault::Undeclared);
+        }
+        Ok(())
+    }
 }
 
 // What the leaves of a rule come to.
@@ -91,12 +104,7 @@ impl Progress {
         ensures few { IfOk result (λ k. (self.rules < 16) × (k ≤ 64)) }
     {
         let tally = survey(rule, names);
-        if tally.misnamed {
-            return Err(Fault::Name);
-        }
-        if tally.undeclared {
-            return Err(Fault::Undeclared);
-        }
+        tally.lowest()?;
         if self.is_crowded(tally.leaves) {
             return Err(Fault::TooMany);
         }

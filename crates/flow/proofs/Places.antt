@@ -9,7 +9,9 @@ use Rattle.std.proofs.lemmas.Slice.Eq.{bytes_eq-Decides}
 use Rattle.std.proofs.lemmas.Iterator.Adapters.{position_from-zero}
 use Rattle.accept.specs.Drafts.{Found}
 use Rattle.flow.specs.declared.event.NamedEvent.{NamedEvent}
+use Rattle.flow.specs.declared.flow.Flow.{Flow}
 use Rattle.flow.specs.Events.{name_of, names_in}
+use Rattle.flow.specs.Of.{names_of}
 
 -- the place of a name among the events', counted from some number on
 module _ (n : List ℕ) where
@@ -31,3 +33,6 @@ module _ (n : List ℕ) where
 
   pub found_at : (es : List NamedEvent) → Found (names_in es) n (position (λ x. bytes_eq (name_of x) n) es)
   found_at es = subst (Found (names_in es) n) (sym (position_from-zero (λ x. bytes_eq (name_of x) n) es)) (counted es (position_from (λ x. bytes_eq (name_of x) n) 0 es) (told 0 es))
+
+  pub found_when : (f : Flow) (r : Option ℕ) → r ≡ position (λ x. bytes_eq (name_of x) n) f.events.items → Found (names_of f) n r
+  found_when f r is = subst (Found (names_of f) n) (sym is) (found_at f.events.items)

@@ -1,5 +1,5 @@
 // What a flow tells.
-ghost use Rattle.std.specs.Prelude.{◌≡◌, length, position};
+ghost use Rattle.std.specs.Prelude.{◌≡◌, ◌<◌, length, position, IfSome};
 ghost use Rattle.std.specs.List.{slice_get};
 ghost use Rattle.std.specs.Option.{option_map};
 ghost use Rattle.std.specs.Str.{bytes_eq};
@@ -55,8 +55,16 @@ impl Flow {
         self.events.get(usize::from(number))
     }
 
-    // The place of the first event with a name; absent if there is none.
+    // The place of the event with a name; absent if there is none.
+    #[tactic(auto, using(crate::proofs::Places::found_when))]
     fn place(&self, name: &[u8]) -> Option<usize>
+        ensures { Found (names_of self.now) name.now result × IfSome result (λ i. i < 12) }
+    {
+        self.first(name)
+    }
+
+    // The same, as the first of the events' names that is this one.
+    fn first(&self, name: &[u8]) -> Option<usize>
         ensures { result ≡ position (λ e. bytes_eq (name_of e) name.now) self.now.events.items }
     {
         self.events

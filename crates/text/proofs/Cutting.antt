@@ -8,7 +8,7 @@ use Rattle.std.specs.Option.{option_map}
 use Rattle.std.specs.List.{HoldsAt, AllWithin, position}
 use mathlib.Core.Bool.{false≢true}
 use Rattle.std.proofs.lemmas.Bool.{eqb-true, eq-eqb}
-use Rattle.text.proofs.Searching.{here, none_before, first_found}
+use Rattle.text.proofs.Searching.{here, none_before, first_found, rest_is}
 use Rattle.text.specs.Lines.{NoFeed, EndsAt, FeedNext, FirstLine, ended, Strange}
 use Rattle.text.specs.declared.line.Line.{Line}
 use Rattle.text.specs.Files.{CutAt}
@@ -32,6 +32,10 @@ module _ (bs : List ℕ) (a : ℕ) where
         eqb-true (get_or bs (a + i) 0) 10 (here bs a (λ b. (b == 10) ≡ true) i is),
         λ k low high feed. false≢true (sym (none_before bs a (λ b. (b == 10) ≡ false) i none k low high) ∙ eq-eqb (get_or bs k 0) 10 feed),
       )
+
+  -- the same of the bytes from place a on, as they are cut out
+  pub feed_at : (ys : List ℕ) (r q : Option ℕ) → ys ≡ take (length bs - a) (drop a bs) → r ≡ position (λ b. b == 10) ys → q ≡ option_map (λ i. a + i) r → EndsAt bs a q
+  feed_at ys r q is first e = subst (EndsAt bs a) (sym e) (feed_first r (first ∙ ap (position (λ b. b == 10)) (rest_is bs a ys is)))
 
   -- a line that ends at place e of the file
   first_line : (e : ℕ) → a ≤ e → e ≤ length bs → NoFeed bs a e → FeedNext (drop e bs) → FirstLine (drop a bs) (drop a (take e bs)) (drop e bs)

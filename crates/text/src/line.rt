@@ -26,6 +26,7 @@ pub struct ByteFault {
 }
 
 // The place of the first line feed from a place on; absent if there is none.
+#[tactic(auto, using(crate::proofs::Cutting::feed_at))]
 pub fn line_end(bytes: &[u8], from: usize) -> Option<usize>
     ensures { EndsAt bytes.now from result }
 {
