@@ -1,9 +1,9 @@
 -- Names entered into the map.
-use Rattle.std.proofs.Common.{◌≡◌, ℕ, ◌<◌, ◌≤◌, Bool, true, false, cond, List, [], ◌∷◌, length, Some, None, Ok, Err, Result, sym, refl, ap, ◌∙◌, arith, Bor}
+use Rattle.std.proofs.Common.{◌≡◌, ℕ, ◌<◌, ◌≤◌, Bool, true, false, cond, List, [], ◌∷◌, length, Some, None, Ok, Err, Result, sym, refl, ap, ◌∙◌, subst, arith, Bor}
 use Rattle.std.specs.Str.{bytes_eq}
 use Rattle.slots.specs.declared.slot.InsertError.{InsertError}
 use Rattle.slots.specs.declared.slot.InsertError.TheVariants.{Present, Full}
-use Rattle.slots.specs.Maps.{Slots, at, taken, Valid, Inserts}
+use Rattle.slots.specs.Maps.{Slots, at, taken, Valid, Inserts, Vacant}
 use Rattle.slots.proofs.Tables.{taken_most}
 use Rattle.accept.specs.declared.key.NameKey.{NameKey}
 use Rattle.accept.specs.declared.names.EventNames.{EventNames}
@@ -37,21 +37,25 @@ module _ (s t : Slots NameKey) (n : Bor (List ℕ)) (k v : ℕ) (is : v ≡ k) w
     few_with h false m e q = few m e q
 
     -- the numbers stay below twelve
-    pub kept : (r : Result (Unit {0}) InsertError) → Inserts same_name s t (record { bytes = n }) v r → (length t ≡ 12) × Few t
-    kept (Ok done) (new, many, long, all) =
+    pub kept : Inserts same_name s t (record { bytes = n }) v (Ok tt) → (length t ≡ 12) × Few t
+    kept (new, many, long, all) =
         let q = taken_most t in (
           long ∙ twelve,
           λ m e p. few_with (omega arith) (bytes_eq n.now m) m e (sym (numbered_more (new, many, long, all) m) ∙ p),
         )
-    kept (Err (Present e)) (same, old) = (ap length same ∙ twelve, λ m e p. few m e (ap (λ z. numbered z m) (sym same) ∙ p))
-    kept (Err Full) (same, new, all) = (ap length same ∙ twelve, λ m e p. few m e (ap (λ z. numbered z m) (sym same) ∙ p))
 
 module _ (s : EventNames) (t : Slots NameKey) (n : Bor (List ℕ)) (k v : ℕ) (is : v ≡ k) (twelve : length t ≡ 12) (valid : Valid same_name name_hash t) (few : Few t) where
-  pub entering : (r : Result (Unit {0}) InsertError) → Inserts same_name s.slots t (record { bytes = n }) v r → Entering s n.now k (record { slots = t; twelve = twelve; valid = valid; few = few }) r
-  entering (Ok done) (new, many, long, all) = (
+  pub entering : Inserts same_name s.slots t (record { bytes = n }) v (Ok tt) → Entering s n.now k (record { slots = t; twelve = twelve; valid = valid; few = few }) (Ok tt)
+  entering (new, many, long, all) = (
     sym (at_numbered s.slots (record { bytes = n })) ∙ new,
     many,
     numbered_more s.slots t n k v is (new, many, long, all),
   )
-  entering (Err (Present e)) (same, old) = sym (at_numbered s.slots (record { bytes = n })) ∙ old
-  entering (Err Full) (same, new, all) = (sym (at_numbered s.slots (record { bytes = n })) ∙ new, all ∙ s.twelve)
+
+-- a name that has no vacancy is not entered
+no_entry : (s : EventNames) (n : Bor (List ℕ)) (k : ℕ) (e : InsertError) → Vacant same_name name_hash s.slots (record { bytes = n }) (Err e) → Entering s n.now k s (Err e)
+no_entry s n k (Present e) old = sym (at_numbered s.slots (record { bytes = n })) ∙ old
+no_entry s n k Full (new, all) = (sym (at_numbered s.slots (record { bytes = n })) ∙ new, all ∙ s.twelve)
+
+pub not_entered : (s : EventNames) (n : Bor (List ℕ)) (k : ℕ) (e : InsertError) (r : Result (Unit {0}) InsertError) → Vacant same_name name_hash s.slots (record { bytes = n }) (Err e) → r ≡ Err e → Entering s n.now k s r
+not_entered s n k e r vacant is = subst (Entering s n.now k s) (sym is) (no_entry s n k e vacant)

@@ -11,7 +11,7 @@ use super::key::NameKey;
 use super::name::is_name;
 use super::names::EventNames;
 use refusals::Fault;
-use slots::{InsertError, Slot, find, insert};
+use slots::{Entry, InsertError, Slot, find, vacancy};
 use text::NameRun;
 
 // The event of a name that the slots have: at most 11.
@@ -61,14 +61,18 @@ impl<'a> EventNames<'a> {
     }
 
     // Enters a name with the number of its event, which is how many names there were.
+    #[tactic(auto, using(crate::proofs::Entries::not_entered))]
     fn enter(&mut self, name: &'a [u8], number: u8) -> Result<(), InsertError>
         requires { number ≡ entered self.old }
         ensures { Entering self.old name.now number self.new result }
     {
-        let mut slots = self.slots;
-        let inserted = insert(&mut slots, NameKey { bytes: name }, u32::from(number));
-        self.slots = slots;
-        inserted
+        let key = NameKey { bytes: name };
+        let place = vacancy(&self.slots, &key)?;
+        self.slots[place] = Some(Entry {
+            key,
+            value: u32::from(number),
+        });
+        Ok(())
     }
 
     // Declares the event of a number, which is how many names there were, or says the fault of the lowest

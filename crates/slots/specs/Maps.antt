@@ -9,7 +9,8 @@
 --     Valid same hash s        no two entries are the same, and each is found from its home, the place that its hash gives
 --     Cleared same hash s t    t is s with every slot free
 --     Inserts same s t q v r   asked to insert q with v into s, the map answers r and leaves t
-use Rattle.std.specs.Prelude.{◌≡◌, ℕ, suc, ◌+◌, ◌%◌, ◌<◌, ◌≤◌, Bool, true, false, cond, List, [], ◌∷◌, length, replicate, Some, None, Ok, Err, Option, Result, slice_index_or}
+--     Vacant same hash s q r   r is the slot of s where q is to be inserted with any value, or why it is not inserted
+use Rattle.std.specs.Prelude.{◌≡◌, ℕ, suc, ◌+◌, ◌%◌, ◌<◌, ◌≤◌, Bool, true, false, cond, List, [], ◌∷◌, length, replicate, Some, None, Ok, Err, Option, Result, slice_index_or, slice_set}
 use Rattle.slots.specs.declared.slot.Entry.{Entry}
 use Rattle.slots.specs.declared.slot.InsertError.{InsertError}
 use Rattle.slots.specs.declared.slot.InsertError.TheVariants.{Present, Full}
@@ -58,3 +59,10 @@ module _ {K : Type 0} (same : K → K → Bool) where
       (at same s q ≡ None) × (taken t ≡ taken s + 1) × (length t ≡ length s) × ((x : K) → at same t x ≡ cond (same q x) (Some v) (at same s x))
   Inserts s t q v (Err (Present w)) = (t ≡ s) × (at same s q ≡ Some w)
   Inserts s t q v (Err Full) = (t ≡ s) × (at same s q ≡ None) × (taken s ≡ length s)
+
+module _ {K : Type 0} (same : K → K → Bool) (hash : K → ℕ) where
+  abbrev pub Vacant : Slots K → K → Result ℕ InsertError → Type 0
+  Vacant s q (Ok i) =
+      (i < length s) × ((v : ℕ) → let t = slice_set s i (Some (record { key = q; value = v })) in Inserts same s t q v (Ok tt) × Valid same hash t)
+  Vacant s q (Err (Present w)) = at same s q ≡ Some w
+  Vacant s q (Err Full) = (at same s q ≡ None) × (taken s ≡ length s)

@@ -6,5 +6,5 @@ pub mod map;
 pub mod slot;
 
 pub use key::Key;
-pub use map::{clear, find, insert};
+pub use map::{clear, find, insert, vacancy};
 pub use slot::{Entry, InsertError, Slot};

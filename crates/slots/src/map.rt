@@ -1,6 +1,6 @@
 // The map's calls.
 ghost use Rattle.std.specs.Prelude.{◌≡◌, ◌≤◌, length};
-ghost use Rattle.slots.specs.Maps.{at, Valid, Cleared, Inserts};
+ghost use Rattle.slots.specs.Maps.{at, Valid, Cleared, Inserts, Vacant};
 ghost use Rattle.slots.specs.Search.{Scans, Seeks};
 
 use super::key::Key;
@@ -26,19 +26,30 @@ pub fn find<K: Key>(slots: &[Slot<K>], key: &K) -> Option<u32>
     }
 }
 
+// The slot where a new key is to be inserted, below the number of slots; or why it is not inserted.
+pub fn vacancy<K: Key>(slots: &[Slot<K>], key: &K) -> Result<usize, InsertError>
+    requires { Valid K.same K.hash slots.now }
+    ensures { Vacant K.same K.hash slots.now key.now result }
+{
+    match seek(slots, key) {
+        Some(Place::Free(place)) => Ok(place),
+        Some(Place::Taken(present)) => Err(InsertError::Present(present)),
+        None => Err(InsertError::Full),
+    }
+}
+
 // Inserts a key with its value if it is new and a slot is free; otherwise the slots stay as they are.
 pub fn insert<K: Key + Drop>(slots: &mut [Slot<K>], key: K, value: u32) -> Result<(), InsertError>
     requires { Valid K.same K.hash slots.old }
     ensures inserts { Inserts K.same slots.old slots.new key value result }
     ensures valid { Valid K.same K.hash slots.new }
 {
-    match seek(slots, &key) {
-        Some(Place::Free(place)) => {
+    match vacancy(slots, &key) {
+        Ok(place) => {
             slots[place] = Some(Entry { key, value });
             Ok(())
         }
-        Some(Place::Taken(present)) => Err(InsertError::Present(present)),
-        None => Err(InsertError::Full),
+        Err(error) => Err(error),
     }
 }
 
