@@ -3,6 +3,7 @@
 
 pub mod file;
 pub mod subject;
+pub mod walk;
 pub mod words;
 
 pub use file::{checked, explain_file, refused};

@@ -8,6 +8,7 @@ ghost use Rattle.report.specs.declared.walk.TakeError.TheVariants.{Memory};
 ghost use Rattle.report.specs.Takes.{Becomes};
 
 use super::error::WordError;
+pub use super::error::refusal;
 use super::lines::{rule_lines, settle};
 use super::literal::read_literal;
 use super::named::NamedRules;
