@@ -16,7 +16,7 @@ module _ (n : List ℕ) (w : Bor (List ℕ)) (ws : List (Bor (List ℕ))) where
   first false e true m = Memᴰ.tail m
   first false e false none = λ m. ⊎_elim (λ q. false≢true (sym e ∙ (bytes_eq-Decides w.now n).1 (sym q))) none (Memᴰ.cases_cons m)
 
--- whether a text is among some words, as the slice's `contains` tells it
+-- whether a text is among some words, as a search for one tells it
 pub among : (n : List ℕ) (ws : List (Bor (List ℕ))) → MatchBool (list_any (λ w. bytes_eq w.now n) ws) (Memᴰ n (map (λ w. w.now) ws)) (Memᴰ n (map (λ w. w.now) ws) → ⊥)
 among n [] = λ m. Memᴰ.not-nil m
 among n (w ∷ ws) = first n w ws (bytes_eq w.now n) refl (list_any (λ x. bytes_eq x.now n) ws) (among n ws)

@@ -30,7 +30,7 @@ fn is_reserved(name: &[u8]) -> bool
 fn is_among(name: &[u8], words: &[&[u8]]) -> bool
     ensures { MatchBool result (Memᴰ name.now (map (λ x. x.now) words.now)) (Memᴰ name.now (map (λ x. x.now) words.now) → ⊥) }
 {
-    words.contains(&name)
+    words.iter().any(|word| *word == name)
 }
 
 // Whether a run of letters, digits and hyphens is a name: at most 16 bytes, a letter first, and not
